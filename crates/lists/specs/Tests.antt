@@ -1,0 +1,49 @@
+-- Tests as facts: `T b` says that the test b passes.
+use mathlib.Core.Bool.{Bool, true, false, not, _&&_, _||_}
+use mathlib.Core.Logic.{_⊎_, inl, inr, ⊎-map}
+use mathlib.Core.Path.{_≡_, refl}
+use Prim.Native.Nat.{ℕ}
+use lib.Dec.{T, leb, ltb, eqb, leb→le, le→leb, nleb→lt, ltb→lt, lt→ltb, nltb→le}
+use native.Mathlib.Omega.{arith}
+
+-- what omega needs to read and to prove `T (leb m n)` and `T (ltb m n)`
+pub ruleset tests = (arith, leb→le, le→leb, nleb→lt, ltb→lt, lt→ltb, nltb→le)
+
+pub decided : (b : Bool) → T b ⊎ T (not b)
+decided true = inl tt
+decided false = inr tt
+
+pub passes : (b : Bool) → T b → b ≡ true
+passes true h = refl
+passes false h = absurd h
+
+pub fails : (b : Bool) → T (not b) → b ≡ false
+fails true h = absurd h
+fails false h = refl
+
+pub and-both : (a b : Bool) → T (a && b) → T a × T b
+and-both true b h = (tt, h)
+and-both false b h = absurd h
+
+pub and-intro : (a b : Bool) → T a → T b → T (a && b)
+and-intro true b h k = k
+and-intro false b h k = h
+
+pub and-mono : (a b c : Bool) → (T b → T c) → T (a && b) → T (a && c)
+and-mono true b c h k = h k
+and-mono false b c h k = k
+
+pub or-cases : (a b : Bool) → T (a || b) → T a ⊎ T b
+or-cases true b h = inl h
+or-cases false b h = inr h
+
+pub or-left : (a b : Bool) → T a → T (a || b)
+or-left true b h = h
+or-left false b h = absurd h
+
+pub or-right : (a b : Bool) → T b → T (a || b)
+or-right true b h = tt
+or-right false b h = h
+
+pub leb-total : (m n : ℕ) → T (leb m n) ⊎ T (leb n m)
+leb-total m n = ⊎-map (λ h. h) (λ h. omega tests) (decided (leb m n))

@@ -1,0 +1,5 @@
+-- The terms: 01 "Numbers and their bounds".
+pub mod Bounds
+pub mod Kinds
+pub mod Orders
+pub mod Parameters

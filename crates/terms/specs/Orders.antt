@@ -1,0 +1,85 @@
+-- Orders: 01 "Numbers and their bounds", its last paragraph.
+use Prim.Native.Nat.{ℕ}
+use lib.Dec.{T, eqb}
+use mathlib.Core.Bool.{Bool, true, false, _&&_, cond}
+use mathlib.Core.Path.{_≡_}
+use Rattle.terms.specs.Kinds.{within, isPrice, isQuantity, isMember}
+pub use Rattle.terms.specs.declared.orders.Side.{Side}
+pub use Rattle.terms.specs.declared.orders.Side.the-variants.{Buy, Sell}
+pub use Rattle.terms.specs.declared.orders.Validity.{Validity}
+pub use Rattle.terms.specs.declared.orders.Validity.the-variants.{AtOpening, AtClose, Day, LaterDay}
+pub use Rattle.terms.specs.declared.orders.Auction.{Auction}
+pub use Rattle.terms.specs.declared.orders.Auction.the-variants.{Opening, Closing}
+pub use Rattle.terms.specs.declared.orders.Limit.{Limit}
+pub use Rattle.terms.specs.declared.orders.Limit.the-variants.{Unlimited, At}
+pub use Rattle.terms.specs.declared.orders.Order.{Order}
+pub use Rattle.terms.specs.declared.orders.Entry.{Entry}
+pub use Rattle.terms.specs.declared.orders.SideMade.{SideMade}
+pub use Rattle.terms.specs.declared.orders.ValidityMade.{ValidityMade}
+pub use Rattle.terms.specs.declared.orders.AuctionMade.{AuctionMade}
+pub use Rattle.terms.specs.declared.orders.OrderMade.{OrderMade}
+
+-- side: 1 buy, 2 sell
+abbrev pub isSide : ℕ → Bool
+isSide x = within 1 2 x
+
+abbrev pub sideOf : ℕ → SideMade
+sideOf x = cond (eqb x 1) (SideMade.Good Buy) (cond (eqb x 2) (SideMade.Good Sell) SideMade.Refused)
+
+abbrev pub sideNumber : Side → ℕ
+sideNumber Buy = 1
+sideNumber Sell = 2
+
+-- validity: 1 at-the-opening, 2 at-the-close, 3 day, 4 till a later day
+abbrev pub isValidity : ℕ → Bool
+isValidity x = within 1 4 x
+
+abbrev pub validityOf : ℕ → ValidityMade
+validityOf x =
+    cond (eqb x 1) (ValidityMade.Good AtOpening)
+    (cond (eqb x 2) (ValidityMade.Good AtClose)
+    (cond (eqb x 3) (ValidityMade.Good Day)
+    (cond (eqb x 4) (ValidityMade.Good LaterDay)
+    ValidityMade.Refused)))
+
+abbrev pub validityNumber : Validity → ℕ
+validityNumber AtOpening = 1
+validityNumber AtClose = 2
+validityNumber Day = 3
+validityNumber LaterDay = 4
+
+-- auction: 1 opening, 2 closing
+abbrev pub isAuction : ℕ → Bool
+isAuction x = within 1 2 x
+
+abbrev pub auctionOf : ℕ → AuctionMade
+auctionOf x = cond (eqb x 1) (AuctionMade.Good Opening) (cond (eqb x 2) (AuctionMade.Good Closing) AuctionMade.Refused)
+
+-- a limit: either unlimited or a price
+abbrev pub isLimit : Limit → Bool
+isLimit Unlimited = true
+isLimit (At p) = isPrice p
+
+-- every field of the entry is in its range
+abbrev pub isEntry : Entry → Bool
+isEntry e = isMember (e .member) && isSide (e .side) && isValidity (e .validity) && isQuantity (e .quantity) && isLimit (e .limit)
+
+abbrev pub numbersHold : Entry → Bool
+numbersHold e = isMember (e .member) && isQuantity (e .quantity) && isLimit (e .limit)
+
+-- the order that an entry asks for, its quantity all open
+abbrev pub orderWith : SideMade → ValidityMade → Bool → ℕ → Entry → OrderMade
+orderWith SideMade.Refused v b n e = OrderMade.Refused
+orderWith (SideMade.Good s) ValidityMade.Refused b n e = OrderMade.Refused
+orderWith (SideMade.Good s) (ValidityMade.Good v) false n e = OrderMade.Refused
+orderWith (SideMade.Good s) (ValidityMade.Good v) true n e =
+    OrderMade.Good (record { number = n; member = e .member; side = s; validity = v; left = e .quantity; limit = e .limit })
+
+unfoldable pub orderOf : ℕ → Entry → OrderMade
+orderOf n e = orderWith (sideOf (e .side)) (validityOf (e .validity)) (numbersHold e) n e
+
+-- the parts of an order that were made one by one
+pub order-made : {s : SideMade} {v : ValidityMade} {b : Bool} (n : ℕ) (e : Entry) → s ≡ sideOf (e .side) → v ≡ validityOf (e .validity)
+    → b ≡ numbersHold e → orderWith s v b n e ≡ orderOf n e
+unfolding orderOf
+order-made n e p q r = rw (p, q, r)
