@@ -1,5 +1,5 @@
 -- Choosing from a list: the members that pass a test, and the members that no member beats.
-use Prim.Native.Nat.{ℕ, _≤_, max}
+use Prim.Native.Nat.{ℕ, _+_, _≤_, max}
 use mathlib.Core.Bool.{Bool, true, false, cond, _&&_}
 use mathlib.Core.Logic.{_⊎_, ⊎-elim}
 use mathlib.Core.Path.{_≡_, refl, ap}
@@ -7,7 +7,7 @@ use mathlib.Core.List.{List, [], _∷_, List·Memᴰ·head, List·Memᴰ·tail, 
 use lib.Dec.{T, leb}
 use native.Mathlib.Omega.{arith}
 use Rattle.lists.specs.Tests.{tests, decided, leb-total, and-both, and-intro}
-use Rattle.lists.specs.Sums.{_∈_}
+use Rattle.lists.specs.Sums.{_∈_, counted, sum}
 
 module _ {A : Type 0} where
   -- all members pass
@@ -48,6 +48,15 @@ module _ {A : Type 0} where
       go : (b : Bool) → x ∈ keep f ys → x ∈ cond b (y ∷ keep f ys) (keep f ys)
       go true k = List·Memᴰ·tail k
       go false k = k
+
+  -- what is kept adds up to what is counted
+  pub keep-sum : (f : A → Bool) (w : A → ℕ) (xs : List A) → sum w (keep f xs) ≡ sum (λ x. counted (f x) (w x)) xs
+  keep-sum f w [] = refl
+  keep-sum f w (x ∷ xs) = go (f x) (keep-sum f w xs)
+    where
+      go : (b : Bool) → sum w (keep f xs) ≡ sum (λ x. counted (f x) (w x)) xs → sum w (cond b (x ∷ keep f xs) (keep f xs)) ≡ counted b (w x) + sum (λ x. counted (f x) (w x)) xs
+      go true e = omega arith
+      go false e = omega arith
 
   -- the members that are as good as every member; equals are all kept
   abbrev pub leaders : (A → A → Bool) → List A → List A

@@ -4,20 +4,20 @@ use lib.Dec.{T, eqb}
 use mathlib.Core.Bool.{Bool, true, false, _&&_, cond}
 use mathlib.Core.Path.{_≡_}
 use Rattle.terms.specs.Kinds.{within, isPrice, isQuantity, isMember}
-pub use Rattle.terms.specs.declared.orders.Side.{Side}
-pub use Rattle.terms.specs.declared.orders.Side.the-variants.{Buy, Sell}
-pub use Rattle.terms.specs.declared.orders.Validity.{Validity}
-pub use Rattle.terms.specs.declared.orders.Validity.the-variants.{AtOpening, AtClose, Day, LaterDay}
-pub use Rattle.terms.specs.declared.orders.Auction.{Auction}
-pub use Rattle.terms.specs.declared.orders.Auction.the-variants.{Opening, Closing}
-pub use Rattle.terms.specs.declared.orders.Limit.{Limit}
-pub use Rattle.terms.specs.declared.orders.Limit.the-variants.{Unlimited, At}
-pub use Rattle.terms.specs.declared.orders.Order.{Order}
-pub use Rattle.terms.specs.declared.orders.Entry.{Entry}
-pub use Rattle.terms.specs.declared.orders.SideMade.{SideMade}
-pub use Rattle.terms.specs.declared.orders.ValidityMade.{ValidityMade}
-pub use Rattle.terms.specs.declared.orders.AuctionMade.{AuctionMade}
-pub use Rattle.terms.specs.declared.orders.OrderMade.{OrderMade}
+use Rattle.terms.specs.declared.orders.Side.{Side}
+use Rattle.terms.specs.declared.orders.Side.the-variants.{Buy, Sell}
+use Rattle.terms.specs.declared.orders.Validity.{Validity}
+use Rattle.terms.specs.declared.orders.Validity.the-variants.{AtOpening, AtClose, Day, LaterDay}
+use Rattle.terms.specs.declared.orders.Auction.{Auction}
+use Rattle.terms.specs.declared.orders.Auction.the-variants.{Opening, Closing}
+use Rattle.terms.specs.declared.orders.Limit.{Limit}
+use Rattle.terms.specs.declared.orders.Limit.the-variants.{Unlimited, At}
+use Rattle.terms.specs.declared.orders.Order.{Order}
+use Rattle.terms.specs.declared.orders.Entry.{Entry}
+use Rattle.terms.specs.declared.orders.SideMade.{SideMade}
+use Rattle.terms.specs.declared.orders.ValidityMade.{ValidityMade}
+use Rattle.terms.specs.declared.orders.AuctionMade.{AuctionMade}
+use Rattle.terms.specs.declared.orders.OrderMade.{OrderMade}
 
 -- side: 1 buy, 2 sell
 abbrev pub isSide : ℕ → Bool

@@ -3,8 +3,8 @@ use Prim.Native.Nat.{ℕ}
 use mathlib.Core.Bool.{Bool, true, false, _&&_}
 use mathlib.Core.Path.{_≡_}
 use Rattle.terms.specs.Kinds.{isStep, isReference, isFactor, isThreshold, isOrderValue}
-pub use Rattle.terms.specs.declared.parameters.Parameters.{Parameters}
-pub use Rattle.terms.specs.declared.parameters.ParametersMade.{ParametersMade}
+use Rattle.terms.specs.declared.parameters.Parameters.{Parameters}
+use Rattle.terms.specs.declared.parameters.ParametersMade.{ParametersMade}
 
 abbrev pub areParameters : ℕ → ℕ → ℕ → ℕ → ℕ → Bool
 areParameters step reference factor threshold most =

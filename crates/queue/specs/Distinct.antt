@@ -1,0 +1,42 @@
+-- Numbers are distinct: 01 "A number is never given twice". The one premise of the laws of rank and of demand 3.
+use Prim.Native.Nat.{ℕ, _+_, _≤_}
+use mathlib.Core.Bool.{Bool, true, false, cond, _&&_}
+use mathlib.Core.Logic.{_≢_}
+use mathlib.Core.Path.{_≡_, refl, sym, ap, _∙_}
+use mathlib.Core.List.{List, [], _∷_, List·Memᴰ·head, List·Memᴰ·tail}
+use native.Mathlib.Omega.{arith}
+use lib.Dec.{T, eqb}
+use Rattle.lists.specs.Sums.{_∈_, counted, sum}
+use Rattle.lists.specs.Choice.{keep, keep-elim}
+use Rattle.terms.specs.declared.orders.{Order.Order}
+
+-- no two orders of the list have the same number
+abbrev pub Distinct : List Order → Type 0
+Distinct [] = Unit {0}
+Distinct (o ∷ os) = ((x : Order) → x ∈ os → x .number ≢ o .number) × Distinct os
+
+-- two orders with one number are one order
+pub distinct-one : {a b : Order} (os : List Order) → Distinct os → a ∈ os → b ∈ os → a .number ≡ b .number → a ≡ b
+distinct-one (o ∷ os) d (List·Memᴰ·head e) (List·Memᴰ·head f) i = e ∙ sym f
+distinct-one (o ∷ os) (others, d) (List·Memᴰ·head e) (List·Memᴰ·tail m) i = absurd (others _ m (cc))
+distinct-one (o ∷ os) (others, d) (List·Memᴰ·tail m) (List·Memᴰ·head f) i = absurd (others _ m (cc))
+distinct-one (o ∷ os) (others, d) (List·Memᴰ·tail m) (List·Memᴰ·tail m') i = distinct-one os d m m' i
+
+pub distinct-keep : (f : Order → Bool) (os : List Order) → Distinct os → Distinct (keep f os)
+distinct-keep f [] d = tt
+distinct-keep f (o ∷ os) (others, d) = go (f o) (distinct-keep f os d)
+  where
+    go : (b : Bool) → Distinct (keep f os) → Distinct (cond b (o ∷ keep f os) (keep f os))
+    go true below = ((λ x m. others x (keep-elim f os m .0)), below)
+    go false below = below
+
+-- what is counted at one number is counted once at most
+pub distinct-sum : (n top : ℕ) (f : ℕ → Bool) (w : Order → ℕ) (os : List Order) → Distinct os → ((m : ℕ) → T (f m) → m ≡ n) → ((o : Order) → o ∈ os → o .number ≡ n → w o ≤ top)
+    → sum (λ o. counted (f (o .number)) (w o)) os ≤ top
+distinct-sum n top f w [] d only h = omega arith
+distinct-sum n top f w (o ∷ os) (others, d) only h = go (f (o .number)) (only (o .number)) (λ top h. distinct-sum n top f w os d only h)
+  where
+    go : (b : Bool) → (T b → o .number ≡ n) → ((top : ℕ) → ((x : Order) → x ∈ os → x .number ≡ n → w x ≤ top) → sum (λ x. counted (f (x .number)) (w x)) os ≤ top)
+        → counted b (w o) + sum (λ x. counted (f (x .number)) (w x)) os ≤ top
+    go true e below = omega (arith, h o (List·Memᴰ·head refl) (e tt), below 0 (λ x m i. absurd (others x m (i ∙ sym (e tt)))))
+    go false e below = omega (arith, below top (λ x m i. h x (List·Memᴰ·tail m) i))

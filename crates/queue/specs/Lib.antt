@@ -1,0 +1,7 @@
+-- The queue: who takes part, rank, and filling from the front.
+pub mod Part
+pub mod Sides
+pub mod Distinct
+pub mod Rank
+pub mod Fill
+pub mod Front
