@@ -1,0 +1,35 @@
+-- A legal price: 01 "The price", "the price found is always a multiple of the step" (B7).
+use Prim.Native.Nat.{ℕ}
+use mathlib.Core.Bool.{Bool, true, false, _&&_}
+use mathlib.Core.Option.{some}
+use mathlib.Core.Path.{_≡_, refl}
+use mathlib.Core.List.{List, [], _∷_, List·Memᴰ·head, List·Memᴰ·tail, List·Memᴰ·not-nil}
+use lib.Dec.{T}
+use Rattle.lists.specs.Sums.{_∈_}
+use Rattle.terms.specs.Kinds.{isReference}
+use Rattle.terms.specs.declared.orders.{Limit.Limit, Limit.the-variants.Unlimited, Limit.the-variants.At, Order.Order}
+use Rattle.price.specs.Candidates.{addLimit, limits, candidates}
+use Rattle.price.specs.Chain.{auctionPrice, price-candidate}
+
+-- a limit is a price and a multiple of the step, or unlimited
+abbrev pub isLegal : ℕ → Limit → Bool
+isLegal step Unlimited = true
+isLegal step (At p) = isReference step p
+
+limits-all : (P : ℕ → Type 0) (ask : Limit → Type 0) → ((p : ℕ) → ask (At p) → P p) → (book : List Order) → ((o : Order) → o ∈ book → ask (o .limit)) → (p : ℕ) → p ∈ limits book → P p
+limits-all P ask told [] h p m = absurd (List·Memᴰ·not-nil m)
+limits-all P ask told (o ∷ os) h p m = go (o .limit) (h o (List·Memᴰ·head refl)) (limits-all P ask told os (λ x n. h x (List·Memᴰ·tail n)) p) m
+  where
+    go : (w : Limit) → ask w → (p ∈ limits os → P p) → p ∈ addLimit w (limits os) → P p
+    go Unlimited k below m = below m
+    go (At l) k below (List·Memᴰ·head e) = rw e (told l k)
+    go (At l) k below (List·Memᴰ·tail m) = below m
+
+-- The auction price is a price and a multiple of the step, where the limits and the reference price are (B7).
+pub price-legal : (step reference : ℕ) (book : List Order) → T (isReference step reference) → ((o : Order) → o ∈ book → T (isLegal step (o .limit)))
+    → (p : ℕ) → auctionPrice reference book ≡ some p → T (isReference step p)
+price-legal step reference book r h p e = go (price-candidate reference book p e)
+  where
+    go : p ∈ candidates reference book → T (isReference step p)
+    go (List·Memᴰ·head i) = rw i r
+    go (List·Memᴰ·tail m) = limits-all (λ p. T (isReference step p)) (λ w. T (isLegal step w)) (λ p k. k) book h p m

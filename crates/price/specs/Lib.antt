@@ -1,0 +1,5 @@
+-- The price: 01 "The price".
+pub mod Interest
+pub mod Candidates
+pub mod Chain
+pub mod Legal
