@@ -87,6 +87,21 @@ fill-front f (suc q) (o ∷ os) (first, c) = go (f o) (λ x m. first x m) (fill-
     go true h e = omega arith
     go false h e = omega (arith, none-pass f os h)
 
+-- .. and where q is within what the front part has open, nobody else gets anything
+pub fill-passes : (f : Order → Bool) (q : ℕ) (os : List Order) → FrontPart f os → q ≤ sum (λ o. counted (f o) (o .left)) os → (x : Fill) → x ∈ fill q os → T (f (x .order))
+fill-passes f q [] c h x m = absurd (List·Memᴰ·not-nil m)
+fill-passes f zero (o ∷ os) c h x m = absurd (List·Memᴰ·not-nil m)
+fill-passes f (suc q) (o ∷ os) (first, c) h x m = go (f o) refl h first (λ k n. fill-passes f (suc q - o .left) os c k x n) m
+  where
+    others : ℕ
+    others = sum (λ o. counted (f o) (o .left)) os
+
+    go : (b : Bool) → f o ≡ b → suc q ≤ counted b (o .left) + others → ((y : Order) → y ∈ os → T (f y) → T b) → (suc q - o .left ≤ others → x ∈ fill (suc q - o .left) os → T (f (x .order)))
+        → x ∈ fill (suc q) (o ∷ os) → T (f (x .order))
+    go true e h first below (List·Memᴰ·head p) = rw (p, e) tt
+    go true e h first below (List·Memᴰ·tail n) = below (omega arith) n
+    go false e h first below n = absurd (omega (arith, none-pass f os first))
+
 -- What is filled, added up by the numbers of a book that has each of them once.
 pick-number : (f : Order → Bool) (w : ℕ) {o : Order} (book : List Order) → Distinct book → o ∈ book → sum (λ x. counted (f x) (counted (eqb (o .number) (x .number)) w)) book ≡ counted (f o) w
 pick-number f w {o} (y ∷ ys) (others, d) (List·Memᴰ·head e) = omega (arith, here, sum-none (λ x. counted (f x) (counted (eqb (o .number) (x .number)) w)) ys later)

@@ -1,0 +1,8 @@
+-- The auction: 01 "Outcomes".
+pub mod Trades
+pub mod Pairing
+pub mod Fills
+pub mod Outcome
+pub mod After
+pub mod Left
+pub mod NonOpening

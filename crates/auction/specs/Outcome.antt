@@ -1,0 +1,88 @@
+-- The outcome: 01 "Outcomes", in its order. `book` is the list of orders taking part.
+use Prim.Native.Nat.{ℕ, _*_}
+use mathlib.Core.Bool.{Bool, true, false, cond, not, _&&_, _||_}
+use mathlib.Core.Option.{Option, none, some}
+use mathlib.Core.List.{List, []}
+use lib.Dec.{leb, ltb}
+use lib.ListN.{length}
+use Rattle.lists.specs.Sums.{apart}
+use Rattle.terms.specs.Bounds.{hundredthsOfPercent}
+use Rattle.terms.specs.declared.orders.{Side.Side, Side.the-variants.Buy, Side.the-variants.Sell, Auction.Auction, Auction.the-variants.Opening, Auction.the-variants.Closing, Limit.Limit, Limit.the-variants.Unlimited, Limit.the-variants.At, Order.Order}
+use Rattle.price.specs.Interest.{executable}
+use Rattle.price.specs.Candidates.{mostExecutable}
+use Rattle.price.specs.Chain.{auctionPrice}
+use Rattle.auction.specs.declared.{Trade.Trade, Outcome.Outcome, Outcome.the-variants.Traded, Outcome.the-variants.NoTrade, Outcome.the-variants.NonOpening, Outcome.the-variants.Delayed}
+use Rattle.auction.specs.Fills.{leftOf, tradesOf}
+
+abbrev pub isUnlimited : Limit → Bool
+isUnlimited Unlimited = true
+isUnlimited (At p) = false
+
+-- the unlimited quantity taking part on a side
+abbrev pub unlimited : Side → List Order → ℕ
+unlimited s book = leftOf s (λ o. isUnlimited (o .limit)) book
+
+-- Non Opening: the unlimited quantity taking part on either side exceeds the highest executable quantity
+unfoldable pub nonOpening : ℕ → List Order → Bool
+nonOpening reference book = ltb (mostExecutable reference book) (unlimited Buy book) || ltb (mostExecutable reference book) (unlimited Sell book)
+
+-- .. which prevents an opening; unlimited orders that stay unfilled don't prevent a closing
+abbrev pub prevented : Auction → ℕ → List Order → Bool
+prevented Opening reference book = nonOpening reference book
+prevented Closing reference book = false
+
+-- |price − reference| × 10,000 ≥ threshold × reference
+abbrev pub reaches : ℕ → ℕ → ℕ → Bool
+reaches threshold reference price = leb (threshold * reference) (apart price reference * hundredthsOfPercent)
+
+-- Delayed Opening: no delay has been given yet, and the price reaches the threshold
+abbrev pub delays : Auction → Bool → ℕ → ℕ → ℕ → Bool
+delays Opening delayed threshold reference price = not delayed && reaches threshold reference price
+delays Closing delayed threshold reference price = false
+
+-- with a price the auction trades, unless it is delayed; without one there is no trade
+abbrev pub priced : Auction → Bool → ℕ → ℕ → List Order → Option ℕ → Outcome
+priced a delayed threshold reference book none = NoTrade
+priced a delayed threshold reference book (some p) =
+    cond (delays a delayed threshold reference p) (Delayed p (executable book p)) (Traded p (executable book p))
+
+-- Non Opening first, then Delayed Opening, then outcome 1 with trades or 2 without
+unfoldable pub outcome : Auction → Bool → ℕ → ℕ → List Order → Outcome
+outcome a delayed threshold reference book =
+    cond (prevented a reference book) NonOpening (priced a delayed threshold reference book (auctionPrice reference book))
+
+-- the trades: only where the auction trades
+abbrev pub trades : Outcome → List Order → List Trade
+trades (Traded price quantity) book = tradesOf quantity book
+trades NoTrade book = []
+trades NonOpening book = []
+trades (Delayed price quantity) book = []
+
+-- the answer's four numbers: outcome, price, quantity, count of trades
+abbrev pub outcomeNumber : Outcome → ℕ
+outcomeNumber (Traded price quantity) = 1
+outcomeNumber NoTrade = 2
+outcomeNumber NonOpening = 3
+outcomeNumber (Delayed price quantity) = 4
+
+abbrev pub priceAnswered : Outcome → ℕ
+priceAnswered (Traded price quantity) = price
+priceAnswered NoTrade = 0
+priceAnswered NonOpening = 0
+priceAnswered (Delayed price quantity) = price
+
+abbrev pub quantityAnswered : Outcome → ℕ
+quantityAnswered (Traded price quantity) = quantity
+quantityAnswered NoTrade = 0
+quantityAnswered NonOpening = 0
+quantityAnswered (Delayed price quantity) = quantity
+
+abbrev pub countAnswered : Outcome → List Order → ℕ
+countAnswered o book = length (trades o book)
+
+-- an auction that is not held back: outcome 1 or 2
+abbrev pub isHeld : Outcome → Bool
+isHeld (Traded price quantity) = true
+isHeld NoTrade = true
+isHeld NonOpening = false
+isHeld (Delayed price quantity) = false

@@ -1,0 +1,16 @@
+// The auction: outcome, trades and what is left (01 "Outcomes"). Its definitions are in specs/; the code comes later.
+
+// A trade at the auction price; buy and sell are the orders' numbers.
+pub struct Trade {
+    pub buy: u32,
+    pub sell: u32,
+    pub quantity: u32,
+}
+
+// The outcome of an auction, with its price and quantity where it has them.
+pub enum Outcome {
+    Traded { price: u32, quantity: u64 },
+    NoTrade,
+    NonOpening,
+    Delayed { price: u32, quantity: u64 },
+}
