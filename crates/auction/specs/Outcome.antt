@@ -2,8 +2,11 @@
 use Prim.Native.Nat.{ℕ, _*_}
 use mathlib.Core.Bool.{Bool, true, false, cond, not, _&&_, _||_}
 use mathlib.Core.Option.{Option, none, some}
+use mathlib.Core.Logic.{_↔_}
+use mathlib.Core.Path.{_≡_, refl, ap}
 use mathlib.Core.List.{List, []}
-use lib.Dec.{leb, ltb}
+use native.Mathlib.Omega.{arith}
+use lib.Dec.{T, leb, ltb}
 use lib.ListN.{length}
 use Rattle.lists.specs.Sums.{apart}
 use Rattle.terms.specs.Bounds.{hundredthsOfPercent}
@@ -86,3 +89,60 @@ isHeld (Traded price quantity) = true
 isHeld NoTrade = true
 isHeld NonOpening = false
 isHeld (Delayed price quantity) = false
+
+-- What an outcome says of the price.
+module _ (a : Auction) (delayed : Bool) (threshold reference : ℕ) (book : List Order) where
+  priced-traded : (found : Option ℕ) (p q : ℕ) → priced a delayed threshold reference book found ≡ Traded p q → (found ≡ some p) × (q ≡ executable book p)
+  priced-traded none p q e = let z : _≡_ {A = ℕ} 0 1 = cc in absurd (omega arith)
+  priced-traded (some r) p q e = go (delays a delayed threshold reference r) e
+    where
+      go : (b : Bool) → cond b (Delayed r (executable book r)) (Traded r (executable book r)) ≡ Traded p q → (_≡_ {A = Option ℕ} (some r) (some p)) × (q ≡ executable book p)
+      go true e = let z : _≡_ {A = ℕ} 0 1 = cc in absurd (omega arith)
+      go false e = let i : r ≡ p = cc in (ap some i, cc)
+
+  priced-no-trade : (found : Option ℕ) → priced a delayed threshold reference book found ≡ NoTrade → found ≡ none
+  priced-no-trade none e = refl
+  priced-no-trade (some r) e = go (delays a delayed threshold reference r) e
+    where
+      go : (b : Bool) → cond b (Delayed r (executable book r)) (Traded r (executable book r)) ≡ NoTrade → _≡_ {A = Option ℕ} (some r) none
+      go true e = let z : _≡_ {A = ℕ} 0 1 = cc in absurd (omega arith)
+      go false e = let z : _≡_ {A = ℕ} 0 1 = cc in absurd (omega arith)
+
+  -- outcome 1 is at the auction price, for what is executable there
+  pub outcome-traded : (p q : ℕ) → outcome a delayed threshold reference book ≡ Traded p q → (auctionPrice reference book ≡ some p) × (q ≡ executable book p)
+  unfolding outcome
+  outcome-traded p q e = go (prevented a reference book) e
+    where
+      go : (b : Bool) → cond b NonOpening (priced a delayed threshold reference book (auctionPrice reference book)) ≡ Traded p q → (auctionPrice reference book ≡ some p) × (q ≡ executable book p)
+      go true e = let z : _≡_ {A = ℕ} 0 1 = cc in absurd (omega arith)
+      go false e = priced-traded (auctionPrice reference book) p q e
+
+  -- outcome 2 is where there is no price
+  pub outcome-no-trade : outcome a delayed threshold reference book ≡ NoTrade → auctionPrice reference book ≡ none
+  unfolding outcome
+  outcome-no-trade e = go (prevented a reference book) e
+    where
+      go : (b : Bool) → cond b NonOpening (priced a delayed threshold reference book (auctionPrice reference book)) ≡ NoTrade → auctionPrice reference book ≡ none
+      go true e = let z : _≡_ {A = ℕ} 0 1 = cc in absurd (omega arith)
+      go false e = priced-no-trade (auctionPrice reference book) e
+
+  priced-opens : (found : Option ℕ) → priced a delayed threshold reference book found ≡ NonOpening → ⊥
+  priced-opens none e = let z : _≡_ {A = ℕ} 0 1 = cc in omega arith
+  priced-opens (some r) e = go (delays a delayed threshold reference r) e
+    where
+      go : (b : Bool) → cond b (Delayed r (executable book r)) (Traded r (executable book r)) ≡ NonOpening → ⊥
+      go true e = let z : _≡_ {A = ℕ} 0 1 = cc in omega arith
+      go false e = let z : _≡_ {A = ℕ} 0 1 = cc in omega arith
+
+  -- outcome 3 exactly where unlimited orders prevent the auction
+  pub outcome-prevented : (outcome a delayed threshold reference book ≡ NonOpening) ↔ T (prevented a reference book)
+  unfolding outcome
+  outcome-prevented = (to (prevented a reference book), from (prevented a reference book))
+    where
+      to : (b : Bool) → cond b NonOpening (priced a delayed threshold reference book (auctionPrice reference book)) ≡ NonOpening → T b
+      to true e = tt
+      to false e = absurd (priced-opens (auctionPrice reference book) e)
+
+      from : (b : Bool) → T b → cond b NonOpening (priced a delayed threshold reference book (auctionPrice reference book)) ≡ NonOpening
+      from true h = refl
+      from false h = absurd h
