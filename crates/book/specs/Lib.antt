@@ -1,0 +1,4 @@
+-- The book: which places are taken, and what rests at them.
+pub mod Places
+pub mod Columns
+pub mod Resting

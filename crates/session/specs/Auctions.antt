@@ -1,0 +1,119 @@
+-- The auction and the theoretical answer: what each call returns and leaves, refusals included.
+use Prim.Native.Nat.{ℕ, zero, suc, _*_}
+use mathlib.Core.Bool.{Bool, true, false, not}
+use mathlib.Core.List.{List, [], _∷_, _++_}
+use lib.Dec.{ltb}
+use lib.ListN.{length, drop}
+use Rattle.terms.specs.Bounds.{tradeListLength, numbersPerTrade}
+use Rattle.terms.specs.Orders.{isAuction, auctionOf}
+use Rattle.terms.specs.declared.orders.{Auction.Auction, AuctionMade.AuctionMade, Order.Order}
+use Rattle.book.specs.declared.Book.{Book}
+use Rattle.book.specs.Resting.{resting, changed}
+use Rattle.queue.specs.Part.{takingPart}
+use Rattle.auction.specs.declared.{Trade.Trade, Outcome.Outcome, Outcome.the-variants.Traded, Outcome.the-variants.NoTrade, Outcome.the-variants.NonOpening, Outcome.the-variants.Delayed}
+use Rattle.auction.specs.Outcome.{outcome, trades, outcomeNumber, priceAnswered, quantityAnswered, countAnswered}
+use Rattle.auction.specs.After.{restOf}
+use Rattle.session.specs.declared.{Session.Session, AuctionAnswer.AuctionAnswer, Auctioned.Auctioned, Foreseen.Foreseen}
+use Rattle.session.specs.Phases.{hasStarted, allowsAuction, phaseAfter}
+use Rattle.session.specs.Checks.{check, Check, firstHit}
+
+-- the orders taking part, the outcome at this moment, and its trades
+abbrev pub part : Session → Auction → List Order
+part s a = takingPart a (resting (s .book))
+
+unfoldable pub outcomeOf : Session → Auction → Outcome
+outcomeOf s a = outcome a (s .delayed) (s .parameters .threshold) (s .reference) (part s a)
+
+abbrev pub tradesNow : Session → Auction → List Trade
+tradesNow s a = trades (outcomeOf s a) (part s a)
+
+-- the four numbers of the answer
+abbrev pub noAnswer : AuctionAnswer
+noAnswer = record { outcome = 0; price = 0; quantity = 0; count = 0 }
+
+abbrev pub answerOf : Outcome → List Order → AuctionAnswer
+answerOf o book = record { outcome = outcomeNumber o; price = priceAnswered o; quantity = quantityAnswered o; count = countAnswered o book }
+
+-- outcomes 1 and 2: the trades leave the book, the ended validities too, and the phase goes on
+abbrev pub closedOut : Session → Auction → List Trade → ℕ → Session
+closedOut s a done reference = record {
+  phase = phaseAfter a;
+  delayed = s .delayed;
+  parameters = s .parameters;
+  reference = reference;
+  given = s .given;
+  book = changed (restOf a done) (s .book);
+}
+
+-- outcome 4: only the mark that the delay is spent changes
+abbrev pub delayGiven : Session → Session
+delayGiven s = record {
+  phase = s .phase;
+  delayed = true;
+  parameters = s .parameters;
+  reference = s .reference;
+  given = s .given;
+  book = s .book;
+}
+
+-- the session after an outcome; with outcome 1 the price becomes the reference price, with outcome 3 nothing changes
+abbrev pub sessionAfter : Session → Auction → List Order → Outcome → Session
+sessionAfter s a book (Traded price quantity) = closedOut s a (trades (Traded price quantity) book) price
+sessionAfter s a book NoTrade = closedOut s a [] (s .reference)
+sessionAfter s a book NonOpening = s
+sessionAfter s a book (Delayed price quantity) = delayGiven s
+
+-- the lent list: buy number, sell number, quantity, price for each trade, from the front; the remainder keeps its contents
+abbrev pub quadruples : ℕ → List Trade → List ℕ
+quadruples price [] = []
+quadruples price (t ∷ ts) = t .buy ∷ t .sell ∷ t .quantity ∷ price ∷ quadruples price ts
+
+abbrev pub written : ℕ → List Trade → List ℕ → List ℕ
+written price ts list = quadruples price ts ++ drop (numbersPerTrade * length ts) list
+
+-- Auction: 1, 2, 4, 12.
+abbrev pub auctionChecks : Session → ℕ → ℕ → List Check
+auctionChecks s which size =
+    check 1 (not (isAuction which))
+    ∷ check 2 (not (hasStarted (s .phase)))
+    ∷ check 4 (not (allowsAuction (s .phase) which))
+    ∷ check 12 (ltb size tradeListLength)
+    ∷ []
+
+-- what the call returns, and the lent list as it leaves it
+pub record AuctionLeaves : Type 0 where
+  pub returned : Auctioned
+  pub list : List ℕ
+
+abbrev pub auctionRefused : ℕ → Session → List ℕ → AuctionLeaves
+auctionRefused n s list = record { returned = record { answer = n; result = noAnswer; session = s }; list = list }
+
+abbrev pub auctionDone : Session → Auction → List ℕ → AuctionLeaves
+auctionDone s a list = record {
+  returned = record { answer = 0; result = answerOf (outcomeOf s a) (part s a); session = sessionAfter s a (part s a) (outcomeOf s a) };
+  list = written (priceAnswered (outcomeOf s a)) (tradesNow s a) list;
+}
+
+abbrev pub auctionAnswer : ℕ → AuctionMade → Session → List ℕ → AuctionLeaves
+auctionAnswer (suc n) which s list = auctionRefused (suc n) s list
+auctionAnswer zero AuctionMade.Refused s list = auctionRefused 1 s list
+auctionAnswer zero (AuctionMade.Good a) s list = auctionDone s a list
+
+unfoldable pub auctioned : Session → ℕ → List ℕ → AuctionLeaves
+auctioned s which list = auctionAnswer (firstHit (auctionChecks s which (length list))) (auctionOf which) s list
+
+-- Theoretical answer: 1, 2, 4. The same four numbers with no change.
+abbrev pub theoreticalChecks : Session → ℕ → List Check
+theoreticalChecks s which =
+    check 1 (not (isAuction which))
+    ∷ check 2 (not (hasStarted (s .phase)))
+    ∷ check 4 (not (allowsAuction (s .phase) which))
+    ∷ []
+
+abbrev pub theoreticalAnswer : ℕ → AuctionMade → Session → Foreseen
+theoreticalAnswer (suc n) which s = record { answer = suc n; result = noAnswer }
+theoreticalAnswer zero AuctionMade.Refused s = record { answer = 1; result = noAnswer }
+theoreticalAnswer zero (AuctionMade.Good a) s = record { answer = 0; result = answerOf (outcomeOf s a) (part s a) }
+
+unfoldable pub theoretical : Session → ℕ → Foreseen
+theoretical s which = theoreticalAnswer (firstHit (theoreticalChecks s which)) (auctionOf which) s

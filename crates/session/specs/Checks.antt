@@ -1,0 +1,17 @@
+-- Checks: 01 "Refusals by number". The refusals of a call are rows in the order of checks; the first hit answers.
+use Prim.Native.Nat.{ℕ}
+use mathlib.Core.Bool.{Bool, cond}
+use mathlib.Core.List.{List, [], _∷_}
+
+-- a refusal's number, and whether its rule hits
+pub record Check : Type 0 where
+  pub number : ℕ
+  pub hit : Bool
+
+abbrev pub check : ℕ → Bool → Check
+check number hit = record { number = number; hit = hit }
+
+-- the number of the first hit; 0 means done
+unfoldable pub firstHit : List Check → ℕ
+firstHit [] = 0
+firstHit (c ∷ cs) = cond (c .hit) (c .number) (firstHit cs)

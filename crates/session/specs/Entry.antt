@@ -1,0 +1,121 @@
+-- Fresh, start, order and delete: what each call returns and leaves, refusals included.
+use Prim.Native.Nat.{ℕ, zero, suc, _+_}
+use mathlib.Core.Bool.{Bool, true, false, not, _&&_, _||_}
+use mathlib.Core.List.{List, [], _∷_}
+use lib.Dec.{eqb, leb}
+use Rattle.lists.specs.Choice.{any}
+use Rattle.terms.specs.Bounds.{places, maxNumber}
+use Rattle.terms.specs.Kinds.{isNumber, isMember}
+use Rattle.terms.specs.Orders.{isEntry, orderOf}
+use Rattle.terms.specs.Parameters.{areParameters}
+use Rattle.terms.specs.declared.orders.{Order.Order, OrderMade.OrderMade, Entry.Entry}
+use Rattle.terms.specs.declared.parameters.{Parameters.Parameters}
+use Rattle.book.specs.declared.Book.{Book}
+use Rattle.book.specs.Places.{lowestFree, countTaken}
+use Rattle.book.specs.Columns.{emptyBook, stored, cleared}
+use Rattle.book.specs.Resting.{resting, placeOf}
+use Rattle.session.specs.declared.{Session.Session, Started.Started, Entered.Entered, Deleted.Deleted, Phase.the-variants.Fresh, Phase.the-variants.PreOpening}
+use Rattle.session.specs.Phases.{hasStarted, allowsOrder}
+use Rattle.session.specs.Checks.{check, Check, firstHit}
+use Rattle.session.specs.Controls.{controlReference, offStep, reachesCollar, reachesMost, reachesMostAtReference}
+
+-- a session that has not started: every number 0, the book empty
+abbrev pub freshSession : Session
+freshSession = record {
+  phase = Fresh;
+  delayed = false;
+  parameters = record { step = 0; reference = 0; factor = 0; threshold = 0; most = 0 };
+  reference = 0;
+  given = 0;
+  book = emptyBook;
+}
+
+-- Start: 1, 3.
+abbrev pub startChecks : Session → Parameters → List Check
+startChecks s p =
+    check 1 (not (areParameters (p .step) (p .reference) (p .factor) (p .threshold) (p .most)))
+    ∷ check 3 (hasStarted (s .phase))
+    ∷ []
+
+-- start leads to pre-opening, with its reference price in force
+abbrev pub startedSession : Session → Parameters → Session
+startedSession s p = record {
+  phase = PreOpening;
+  delayed = s .delayed;
+  parameters = p;
+  reference = p .reference;
+  given = s .given;
+  book = s .book;
+}
+
+abbrev pub startAnswer : ℕ → Session → Parameters → Started
+startAnswer zero s p = record { answer = 0; session = startedSession s p }
+startAnswer (suc n) s p = record { answer = suc n; session = s }
+
+unfoldable pub started : Session → Parameters → Started
+started s p = startAnswer (firstHit (startChecks s p)) s p
+
+-- Order: 1, 2, 4, 5, 6, 7, 8, 9, 10.
+abbrev pub orderChecks : Session → Entry → List Check
+orderChecks s e =
+    check 1 (not (isEntry e))
+    ∷ check 2 (not (hasStarted (s .phase)))
+    ∷ check 4 (not (allowsOrder (s .phase) (e .validity)))
+    ∷ check 5 (offStep (s .parameters .step) (e .limit))
+    ∷ check 6 (reachesCollar (controlReference s) (s .parameters .factor) (e .limit))
+    ∷ check 7 (reachesMost (s .parameters .most) (e .quantity) (e .limit))
+    ∷ check 8 (reachesMostAtReference (s .parameters .most) (e .quantity) (controlReference s))
+    ∷ check 9 (leb maxNumber (s .given))
+    ∷ check 10 (eqb (countTaken (s .book .taken)) places)
+    ∷ []
+
+-- an accepted order takes the next number and the lowest free place
+abbrev pub bookWith : Book → OrderMade → Book
+bookWith b (OrderMade.Good o) = stored b (lowestFree (b .taken)) o
+bookWith b OrderMade.Refused = b
+
+abbrev pub enteredSession : Session → Entry → Session
+enteredSession s e = record {
+  phase = s .phase;
+  delayed = s .delayed;
+  parameters = s .parameters;
+  reference = s .reference;
+  given = s .given + 1;
+  book = bookWith (s .book) (orderOf (s .given + 1) e);
+}
+
+abbrev pub orderAnswer : ℕ → Session → Entry → Entered
+orderAnswer zero s e = record { answer = 0; number = s .given + 1; session = enteredSession s e }
+orderAnswer (suc n) s e = record { answer = suc n; number = 0; session = s }
+
+unfoldable pub entered : Session → Entry → Entered
+entered s e = orderAnswer (firstHit (orderChecks s e)) s e
+
+-- Delete: 1, 2, 11.
+abbrev pub isOf : ℕ → ℕ → Order → Bool
+isOf number member o = eqb (o .number) number && eqb (o .member) member
+
+abbrev pub deleteChecks : Session → ℕ → ℕ → List Check
+deleteChecks s number member =
+    check 1 (not (isNumber number && isMember member))
+    ∷ check 2 (not (hasStarted (s .phase)))
+    ∷ check 11 (not (any (isOf number member) (resting (s .book))))
+    ∷ []
+
+-- a place freed by a deletion is free at once
+abbrev pub deletedSession : Session → ℕ → ℕ → Session
+deletedSession s number member = record {
+  phase = s .phase;
+  delayed = s .delayed;
+  parameters = s .parameters;
+  reference = s .reference;
+  given = s .given;
+  book = cleared (s .book) (placeOf (isOf number member) (s .book));
+}
+
+abbrev pub deleteAnswer : ℕ → Session → ℕ → ℕ → Deleted
+deleteAnswer zero s number member = record { answer = 0; session = deletedSession s number member }
+deleteAnswer (suc n) s number member = record { answer = suc n; session = s }
+
+unfoldable pub deleted : Session → ℕ → ℕ → Deleted
+deleted s number member = deleteAnswer (firstHit (deleteChecks s number member)) s number member
