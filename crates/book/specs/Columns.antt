@@ -1,25 +1,16 @@
 -- Columns: how an order stands at a place, and what storing and clearing change.
-use Prim.Native.Nat.{ℕ, zero, suc}
+use Prim.Native.Nat.{ℕ}
 use mathlib.Core.Bool.{Bool, cond}
 use mathlib.Core.List.{List}
 use lib.Dec.{eqb}
 use lib.ListN.{getD, set, replicate}
 use Rattle.terms.specs.Bounds.{places}
-use Rattle.terms.specs.Orders.{sideNumber, validityNumber}
-use Rattle.terms.specs.declared.orders.{Side.Side, Side.the-variants.Buy, Side.the-variants.Sell, Validity.Validity, Validity.the-variants.AtOpening, Validity.the-variants.AtClose, Validity.the-variants.Day, Validity.the-variants.LaterDay, Limit.Limit, Limit.the-variants.Unlimited, Limit.the-variants.At, Order.Order}
+use Rattle.terms.specs.Orders.{sideNumber, validityNumber, limitNumber, limitFrom}
+use Rattle.terms.specs.declared.orders.{Side.Side, Side.the-variants.Buy, Side.the-variants.Sell, Validity.Validity, Validity.the-variants.AtOpening, Validity.the-variants.AtClose, Validity.the-variants.Day, Validity.the-variants.LaterDay, Order.Order}
 use Rattle.book.specs.declared.Book.{Book}
 use Rattle.book.specs.Places.{marked, unmarked}
 
--- a column of limits holds 0 for unlimited
-abbrev pub limitCode : Limit → ℕ
-limitCode Unlimited = 0
-limitCode (At p) = p
-
-abbrev pub limitFrom : ℕ → Limit
-limitFrom zero = Unlimited
-limitFrom (suc n) = At (suc n)
-
--- sides and validities stand under their numbers of 01
+-- sides, validities and limits stand under their numbers of 01
 abbrev pub sideFrom : ℕ → Side
 sideFrom x = cond (eqb x 1) Buy Sell
 
@@ -58,7 +49,7 @@ stored b place o = record {
   side = set (b .side) place (sideNumber (o .side));
   validity = set (b .validity) place (validityNumber (o .validity));
   left = set (b .left) place (o .left);
-  limit = set (b .limit) place (limitCode (o .limit));
+  limit = set (b .limit) place (limitNumber (o .limit));
 }
 
 -- the book with a place free, written back to the empty values

@@ -1,5 +1,5 @@
 -- Orders: 01 "Numbers and their bounds", its last paragraph.
-use Prim.Native.Nat.{ℕ}
+use Prim.Native.Nat.{ℕ, zero, suc}
 use lib.Dec.{T, eqb}
 use mathlib.Core.Bool.{Bool, true, false, _&&_, cond}
 use mathlib.Core.Path.{_≡_}
@@ -59,6 +59,15 @@ auctionOf x = cond (eqb x 1) (AuctionMade.Good Opening) (cond (eqb x 2) (Auction
 abbrev pub isLimit : Limit → Bool
 isLimit Unlimited = true
 isLimit (At p) = isPrice p
+
+-- .. as a number: 0 means unlimited (01 "Session file")
+abbrev pub limitNumber : Limit → ℕ
+limitNumber Unlimited = 0
+limitNumber (At p) = p
+
+abbrev pub limitFrom : ℕ → Limit
+limitFrom zero = Unlimited
+limitFrom (suc n) = At (suc n)
 
 -- every field of the entry is in its range
 abbrev pub isEntry : Entry → Bool

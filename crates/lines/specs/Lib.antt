@@ -1,0 +1,3 @@
+-- The printed lines: 01 "Session file".
+pub mod Text
+pub mod Line

@@ -1,0 +1,51 @@
+-- Text: words and numbers as bytes of ASCII.
+use Prim.Native.Nat.{ℕ, zero, suc, _+_, _/_, _%_}
+use mathlib.Core.Bool.{cond}
+use mathlib.Core.List.{List, [], _∷_, _++_}
+use lib.Dec.{ltb}
+
+abbrev pub digit : ℕ → ℕ
+digit d = 48 + d
+
+-- a number in decimal, of at most n digits
+unfoldable pub digits : ℕ → ℕ → List ℕ
+digits zero x = []
+digits (suc n) x = cond (ltb x 10) (digit x ∷ []) (digits n (x / 10) ++ (digit (x % 10) ∷ []))
+
+-- a number of 64 bits has at most 20 digits
+abbrev pub decimal : ℕ → List ℕ
+decimal x = digits 20 x
+
+abbrev pub space : ℕ
+space = 32
+
+abbrev pub newline : ℕ
+newline = 10
+
+-- s t a r t
+abbrev pub startWord : List ℕ
+startWord = 115 ∷ 116 ∷ 97 ∷ 114 ∷ 116 ∷ []
+
+-- o r d e r
+abbrev pub orderWord : List ℕ
+orderWord = 111 ∷ 114 ∷ 100 ∷ 101 ∷ 114 ∷ []
+
+-- d e l e t e
+abbrev pub deleteWord : List ℕ
+deleteWord = 100 ∷ 101 ∷ 108 ∷ 101 ∷ 116 ∷ 101 ∷ []
+
+-- a u c t i o n
+abbrev pub auctionWord : List ℕ
+auctionWord = 97 ∷ 117 ∷ 99 ∷ 116 ∷ 105 ∷ 111 ∷ 110 ∷ []
+
+-- t r a d e
+abbrev pub tradeWord : List ℕ
+tradeWord = 116 ∷ 114 ∷ 97 ∷ 100 ∷ 101 ∷ []
+
+-- f a u l t
+abbrev pub faultWord : List ℕ
+faultWord = 102 ∷ 97 ∷ 117 ∷ 108 ∷ 116 ∷ []
+
+-- e n d
+abbrev pub endWord : List ℕ
+endWord = 101 ∷ 110 ∷ 100 ∷ []

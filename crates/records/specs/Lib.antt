@@ -1,0 +1,3 @@
+-- The session file: fields, records and the walk.
+pub mod Fields
+pub mod Walk

@@ -1,0 +1,24 @@
+// The session file: its records and what stands at a place of it (01 "Session file").
+// Its definitions are in specs/; the reader comes later.
+use terms::Entry;
+use terms::Parameters;
+
+// A record with whatever values its fields hold.
+pub enum Record {
+    Start(Parameters),
+    Order(Entry),
+    Delete(Deletion),
+    Auction(u8),
+}
+
+pub struct Deletion {
+    pub number: u32,
+    pub member: u16,
+}
+
+// What stands at a place of a file: a record and the place behind it, a fault, or the end.
+pub enum Read {
+    Record(Record, usize),
+    Fault,
+    End,
+}

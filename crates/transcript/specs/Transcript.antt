@@ -1,0 +1,70 @@
+-- The transcript: 01 "Session file", what the session program prints, as one function of the file's bytes.
+use Prim.Native.Nat.{ℕ, zero, suc}
+use mathlib.Core.Bool.{Bool, true, false}
+use mathlib.Core.List.{List, [], _∷_, _++_}
+use lib.ListN.{replicate}
+use Rattle.terms.specs.Bounds.{tradeListLength}
+use Rattle.terms.specs.Orders.{auctionOf}
+use Rattle.terms.specs.declared.orders.{Auction.Auction, AuctionMade.AuctionMade}
+use Rattle.auction.specs.declared.{Trade.Trade}
+use Rattle.session.specs.declared.{Session.Session, Started.Started, Entered.Entered, Deleted.Deleted, Auctioned.Auctioned}
+use Rattle.session.specs.Entry.{freshSession, started, entered, deleted}
+use Rattle.session.specs.Auctions.{auctioned, tradesNow}
+use Rattle.records.specs.declared.{Record.Record}
+use Rattle.records.specs.Walk.{Walk, walk}
+use Rattle.lines.specs.declared.{Answer.Answer}
+use Rattle.lines.specs.Line.{lineOf, tradeLines, faultLine, endLine}
+
+-- what a record does: the session after it, its answer, and its trades
+pub record Step : Type 0 where
+  pub session : Session
+  pub answer : Answer
+  pub trades : List Trade
+
+-- the list that the program lends to every auction
+abbrev pub lent : List ℕ
+lent = replicate tradeListLength 0
+
+abbrev pub startStep : Started → Step
+startStep r = record { session = r .session; answer = Answer.Start (r .answer); trades = [] }
+
+abbrev pub orderStep : Entered → Step
+orderStep r = record { session = r .session; answer = Answer.Order (r .answer) (r .number); trades = [] }
+
+abbrev pub deleteStep : Deleted → Step
+deleteStep r = record { session = r .session; answer = Answer.Delete (r .answer); trades = [] }
+
+-- the trades of an auction that was not refused
+abbrev pub tradesAnswered : ℕ → AuctionMade → Session → List Trade
+tradesAnswered (suc n) which s = []
+tradesAnswered zero AuctionMade.Refused s = []
+tradesAnswered zero (AuctionMade.Good a) s = tradesNow s a
+
+abbrev pub auctionStep : Auctioned → List Trade → Step
+auctionStep r trades = record { session = r .session; answer = Answer.Auction (r .answer) (r .result); trades = trades }
+
+abbrev pub step : Session → Record → Step
+step s (Record.Start p) = startStep (started s p)
+step s (Record.Order e) = orderStep (entered s e)
+step s (Record.Delete d) = deleteStep (deleted s (d .number) (d .member))
+step s (Record.Auction which) =
+    auctionStep (auctioned s which lent .returned) (tradesAnswered (auctioned s which lent .returned .answer) (auctionOf which) s)
+
+-- the lines of a record, at its place from 1
+abbrev pub stepLines : ℕ → Step → List ℕ
+stepLines place r = lineOf place (r .answer) ++ tradeLines (r .trades)
+
+-- the fault, if one ended the walk, and the count of records answered
+abbrev pub lastLines : ℕ → Bool → List ℕ
+lastLines answered true = faultLine (suc answered) ++ endLine answered
+lastLines answered false = endLine answered
+
+unfoldable pub linesFrom : Session → ℕ → List Record → Bool → List ℕ
+linesFrom s answered [] faulty = lastLines answered faulty
+linesFrom s answered (r ∷ rs) faulty =
+    let done = step s r in
+    stepLines (suc answered) done ++ linesFrom (done .session) (suc answered) rs faulty
+
+-- what is printed for a file
+abbrev pub printed : List ℕ → List ℕ
+printed bytes = linesFrom freshSession 0 (walk bytes .records) (walk bytes .faulty)
