@@ -2,7 +2,7 @@
 use Prim.Native.Nat.{ℕ, suc, _+_, _-_, _≤_, _<_, min}
 use mathlib.Core.Bool.{Bool, true, _&&_}
 use mathlib.Core.Path.{_≡_, refl, sym, ap, _∙_}
-use mathlib.Core.List.{List}
+use mathlib.Core.List.{List, []}
 use native.Mathlib.Omega.{arith}
 use lib.Dec.{T, eqb, eqb→eq}
 use lib.ListN.{length}
@@ -12,7 +12,7 @@ use Rattle.terms.specs.declared.orders.{Side.Side, Side.the-variants.Buy, Side.
 use Rattle.queue.specs.Sides.{sameSide}
 use Rattle.queue.specs.Distinct.{Distinct, distinct-one, distinct-sum}
 use Rattle.queue.specs.Rank.{onSide, ahead, ranked, ranked-in-order, ranked-elim, ranked-intro, ranked-sum}
-use Rattle.queue.specs.Fill.{Fill, fill, filledBy, hasNumber, FrontPart, ranked-front, front-all, fill-length, fill-le, fill-all, fill-front, fill-passes, fill-in-order, filled-by-number, ranked-distinct}
+use Rattle.queue.specs.Fill.{Fill, fill, filledBy, hasNumber, FrontPart, ranked-front, front-all, fill-zero, fill-length, fill-le, fill-all, fill-front, fill-passes, fill-in-order, filled-by-number, ranked-distinct}
 use Rattle.price.specs.Interest.{allows, accepts, interest, executable, allows-ahead}
 use Rattle.auction.specs.declared.Trade.{Trade}
 use Rattle.auction.specs.Trades.{party, traded, volume, TradeList}
@@ -24,6 +24,11 @@ fills s quantity book = fill quantity (ranked s book)
 
 unfoldable pub tradesOf : ℕ → List Order → List Trade
 tradesOf quantity book = paired (fills Buy quantity book) (fills Sell quantity book)
+
+-- of nothing there are no trades
+pub trades-none : (book : List Order) → tradesOf 0 book ≡ []
+unfolding tradesOf fills
+trades-none book = rw (fill-zero (ranked Buy book), fill-zero (ranked Sell book))
 
 -- what the orders of side s that pass the test have open
 abbrev pub leftOf : Side → (Order → Bool) → List Order → ℕ
@@ -114,7 +119,7 @@ module _ (p quantity : ℕ) (book : List Order) (d : Distinct book) (enough : (s
     trades-filled s (b .number),
     filled-le a ma s,
     fill-in-order s quantity (ranked s book) (ranked-in-order s book d) (ranked-distinct s book (ranked s book) d (λ o m. ranked-elim s book m .0) (ranked-in-order s book d)) (ranked-intro s ma sa)
-    (ranked-intro s mb sb) h (omega (arith, trades-filled s (b .number))),
+        (ranked-intro s mb sb) h (omega (arith, trades-filled s (b .number))),
   )
 
   -- no trade is of nothing, where each order has something open
@@ -125,20 +130,30 @@ module _ (p quantity : ℕ) (book : List Order) (d : Distinct book) (enough : (s
       positive : (s : Side) (x : Fill) → x ∈ fills s quantity book → 0 < x .quantity
       positive s x n = fill-all (λ x. 0 < x .quantity) quantity (ranked s book) (λ o k i. omega (arith, live o (ranked-elim s book i .0))) x n
 
+  -- what the orders that pass the test trade on a side, added up over the book, is what they are filled with
+  traded-sum : (s : Side) (f : Order → Bool) → sum (λ o. counted (f o) (traded s (o .number) (tradesOf quantity book))) book ≡ filledBy f (fills s quantity book)
+  traded-sum s f =
+      sum-same (λ o. counted (f o) (traded s (o .number) (tradesOf quantity book))) (λ o. counted (f o) (filledBy (hasNumber (o .number)) (fills s quantity book))) book
+      (λ o m. ap (counted (f o)) (trades-filled s (o .number)))
+      ∙ filled-by-number f book d (fills s quantity book) (λ x m. fills-known s x m .0)
+
+  filled-side : (s : Side) (f : Order → Bool) → filledBy (λ o. onSide s o && f o) (fills s quantity book) ≡ filledBy f (fills s quantity book)
+  filled-side s f =
+      sum-same (λ x. counted (onSide s (x .order) && f (x .order)) (x .quantity)) (λ x. counted (f (x .order)) (x .quantity)) (fills s quantity book)
+      (λ x m. rw (passes (onSide s (x .order)) (fills-known s x m .1)))
+
+  -- the orders of a side trade the quantity
+  pub traded-side : (s : Side) → sum (λ o. counted (onSide s o) (traded s (o .number) (tradesOf quantity book))) book ≡ quantity
+  traded-side s =
+      traded-sum s (onSide s)
+      ∙ sum-same (λ x. counted (onSide s (x .order)) (x .quantity)) (λ x. x .quantity) (fills s quantity book) (λ x m. rw (passes (onSide s (x .order)) (fills-known s x m .1)))
+      ∙ fills-amount s
+
   -- A front part of a side's queue trades the quantity, or all that it has open.
   pub traded-front : (s : Side) (f : Order → Bool) → FrontPart f (ranked s book)
       → sum (λ o. counted (onSide s o && f o) (traded s (o .number) (tradesOf quantity book))) book ≡ min quantity (leftOf s f book)
   unfolding fills
-  traded-front s f front =
-      sum-same (λ o. counted (onSide s o && f o) (traded s (o .number) (tradesOf quantity book))) (λ o. counted (onSide s o && f o) (filledBy (hasNumber (o .number)) (fills s quantity book))) book
-      (λ o m. ap (counted (onSide s o && f o)) (trades-filled s (o .number)))
-      ∙ filled-by-number (λ o. onSide s o && f o) book d (fills s quantity book) (λ x m. fills-known s x m .0)
-      ∙ sum-same (λ x. counted (onSide s (x .order) && f (x .order)) (x .quantity)) (λ x. counted (f (x .order)) (x .quantity)) (fills s quantity book)
-      (λ x m. rw (passes (onSide s (x .order)) (fills-known s x m .1)))
-      ∙ filled
-    where
-      filled : filledBy f (fills s quantity book) ≡ min quantity (leftOf s f book)
-      filled = fill-front f quantity (ranked s book) front ∙ rw (queue-left s f book)
+  traded-front s f front = traded-sum s (λ o. onSide s o && f o) ∙ filled-side s f ∙ fill-front f quantity (ranked s book) front ∙ rw (queue-left s f book)
 
 -- there are fewer trades than orders
 pub trades-count : (quantity : ℕ) (book : List Order) → length (tradesOf quantity book) ≤ length book - 1

@@ -34,7 +34,7 @@ traded-le-volume s book trades d = omega (
   arith,
   sum-swap (λ o t. counted (eqb (party s t) (o .number)) (t .quantity)) book trades,
   sum-mono (λ t. sum (λ o. counted (eqb (party s t) (o .number)) (t .quantity)) book) (λ t. t .quantity) trades
-  (λ t m. distinct-sum (party s t) (t .quantity) (λ n. eqb (party s t) n) (λ o. t .quantity) book d (λ n h. sym (eqb→eq (party s t) n h)) (λ o n i. omega arith)),
+      (λ t m. distinct-sum (party s t) (t .quantity) (λ n. eqb (party s t) n) (λ o. t .quantity) book d (λ n h. sym (eqb→eq (party s t) n h)) (λ o n i. omega arith)),
 )
 
 -- so what is filled is within the highest executable quantity
@@ -95,9 +95,9 @@ unfolding mostExecutable
 fillable-within reference book d = (
   (λ (p, trades, possible, filled). filled-within reference p book trades d possible filled),
   (λ h.
-  let (c, listed, e) = highest-at (executable book) reference (limits book) in
-  let enough : (s : Side) → executable book c ≤ interest s c book = smaller c in
-  (c, tradesOf (executable book c) book, trades-possible c (executable book c) book d enough, fills-all c (executable book c) book d enough (λ s. omega (arith, h s)))),
+      let (c, listed, e) = highest-at (executable book) reference (limits book) in
+      let enough : (s : Side) → executable book c ≤ interest s c book = smaller c in
+      (c, tradesOf (executable book c) book, trades-possible c (executable book c) book d enough, fills-all c (executable book c) book d enough (λ s. omega (arith, h s)))),
 )
   where
     smaller : (c : ℕ) (s : Side) → executable book c ≤ interest s c book
@@ -108,11 +108,11 @@ pub non-opening-exactly : (reference : ℕ) (book : List Order) → Distinct boo
 unfolding nonOpening
 non-opening-exactly reference book d = (
   (λ h f. let within = fillable-within reference book d .0 f in
-  ⊎-elim (λ k. omega (tests, within Buy)) (λ k. omega (tests, within Sell)) (or-cases (ltb (mostExecutable reference book) (unlimited Buy book)) _ h)),
+      ⊎-elim (λ k. omega (tests, within Buy)) (λ k. omega (tests, within Sell)) (or-cases (ltb (mostExecutable reference book) (unlimited Buy book)) _ h)),
   (λ no. ⊎-elim
-  (λ h. h)
-  (λ h. absurd (no (fillable-within reference book d .1 (within h))))
-  (decided (ltb (mostExecutable reference book) (unlimited Buy book) || ltb (mostExecutable reference book) (unlimited Sell book)))),
+      (λ h. h)
+      (λ h. absurd (no (fillable-within reference book d .1 (within h))))
+      (decided (ltb (mostExecutable reference book) (unlimited Buy book) || ltb (mostExecutable reference book) (unlimited Sell book)))),
 )
   where
     neither : (a b : Bool) → T (not (a || b)) → T (not a) × T (not b)

@@ -146,3 +146,12 @@ module _ (a : Auction) (delayed : Bool) (threshold reference : ℕ) (book : List
       from : (b : Bool) → T b → cond b NonOpening (priced a delayed threshold reference book (auctionPrice reference book)) ≡ NonOpening
       from true h = refl
       from false h = absurd h
+
+-- a closing has outcome 1 or 2 only
+pub closing-held : (delayed : Bool) (threshold reference : ℕ) (book : List Order) → T (isHeld (outcome Closing delayed threshold reference book))
+unfolding outcome
+closing-held delayed threshold reference book = go (auctionPrice reference book)
+  where
+    go : (found : Option ℕ) → T (isHeld (priced Closing delayed threshold reference book found))
+    go none = tt
+    go (some p) = tt

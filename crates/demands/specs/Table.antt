@@ -1,46 +1,48 @@
--- The P table: 01 "Sums to check by hand", P1 to P10 (B1).
+-- The P table: 01 "Sums to check by hand", P1 to P10, over the definitions of the calls.
 use Prim.Native.Nat.{ℕ}
 use mathlib.Core.Path.{_≡_, refl}
 use mathlib.Core.List.{List, [], _∷_}
-use lib.ListN.{replicate}
-use Rattle.lists.specs.Sums.{apart}
-use Rattle.terms.specs.declared.orders.{Limit.Limit, Limit.the-variants.Unlimited, Limit.the-variants.At, Entry.Entry}
-use Rattle.terms.specs.declared.parameters.{Parameters.Parameters}
-use Rattle.terms.specs.Orders.{orderOf}
-use Rattle.book.specs.Places.{bit, least, total}
-use Rattle.book.specs.Columns.{stored, cleared}
-use Rattle.book.specs.Resting.{restingTo, findFrom, changedTo}
-use Rattle.queue.specs.Part.{takingPart}
-use Rattle.queue.specs.Rank.{ranked}
-use Rattle.price.specs.Interest.{interest}
-use Rattle.price.specs.Candidates.{mostExecutable}
-use Rattle.price.specs.Chain.{auctionPrice}
-use Rattle.auction.specs.Trades.{traded}
-use Rattle.auction.specs.Fills.{fills, tradesOf}
-use Rattle.auction.specs.Outcome.{nonOpening, outcome}
-use Rattle.auction.specs.After.{restOf}
-use Rattle.session.specs.declared.{Session.Session}
-use Rattle.session.specs.Checks.{firstHit}
-use Rattle.session.specs.Entry.{freshSession, started, entered}
-use Rattle.session.specs.Auctions.{outcomeOf, auctioned, theoretical}
+use Rattle.demands.specs.Computing.{computing}
+use Rattle.demands.specs.Sessions.{startedAt, buy, sell, buyAny, sellAny, entryAnswer, enter, held, after, openingOf, numbers}
 
-abbrev parameters : ℕ → Parameters
-parameters reference = record { step = 100; reference = reference; factor = 9; threshold = 150; most = 1_000_000_000_000 }
+pub record PTable : Type 0 where
+  -- limit 899,900 passes 6; 900,000 doesn't
+  pub P1 : (entryAnswer 100_000 (buy 1 899_900) ≡ 0) × (entryAnswer 100_000 (buy 1 900_000) ≡ 6)
+  -- limit 11,200 passes (100,800); 11,100 doesn't (99,900)
+  pub P2 : (entryAnswer 100_000 (buy 1 11_200) ≡ 0) × (entryAnswer 100_000 (buy 1 11_100) ≡ 6)
+  -- 5,000,000 at 200,000 is refused by 7; 4,999,999 passes
+  pub P3 : (entryAnswer 100_000 (buy 5_000_000 200_000) ≡ 7) × (entryAnswer 100_000 (buy 4_999_999 200_000) ≡ 0)
+  -- unlimited 10,000,000 is refused by 8; 9,999,999 passes
+  pub P4 : (entryAnswer 100_000 (buyAny 10_000_000) ≡ 8) × (entryAnswer 100_000 (buyAny 9_999_999) ≡ 0)
+  -- buy 100 at 100,500, sell 100 at 99,500: price 100,000, quantity 100
+  pub P5 : openingOf 100_000 (buy 100 100_500 ∷ sell 100 99_500 ∷ []) ≡ numbers 1 100_000 100 1
+  -- the same with sell 60: 100,500, 60; with buy 60 and sell 100: 99,500, 60
+  pub P6 : (openingOf 100_000 (buy 100 100_500 ∷ sell 60 99_500 ∷ []) ≡ numbers 1 100_500 60 1)
+      × (openingOf 100_000 (buy 60 100_500 ∷ sell 100 99_500 ∷ []) ≡ numbers 1 99_500 60 1)
+  -- unlimited buy 50 and sell 50: 100,000, 50
+  pub P7 : openingOf 100_000 (buyAny 50 ∷ sellAny 50 ∷ []) ≡ numbers 1 100_000 50 1
+  -- unlimited buy 50, sell 30 at 100,200: Non Opening; buy 30 instead: 100,200, 30
+  pub P8 : (openingOf 100_000 (buyAny 50 ∷ sell 30 100_200 ∷ []) ≡ numbers 3 0 0 0) × (openingOf 100_000 (buyAny 30 ∷ sell 30 100_200 ∷ []) ≡ numbers 1 100_200 30 1)
+  -- buy 100 at 100,400, buy 20 at 100,200, sell 100 at 99,800, sell 20 at 100,400: 100,000, 100; with reference 101,000: 100,400, 100
+  pub P9 : (openingOf 100_000 (buy 100 100_400 ∷ buy 20 100_200 ∷ sell 100 99_800 ∷ sell 20 100_400 ∷ []) ≡ numbers 1 100_000 100 1)
+      × (openingOf 101_000 (buy 100 100_400 ∷ buy 20 100_200 ∷ sell 100 99_800 ∷ sell 20 100_400 ∷ []) ≡ numbers 1 100_400 100 1)
+  -- buy 10 and sell 10 at 101,500: Delayed; asked again, it opens; at 101,400 it opens at once
+  pub P10 : (openingOf 100_000 (buy 10 101_500 ∷ sell 10 101_500 ∷ []) ≡ numbers 4 101_500 10 0)
+      × (held 1 (after 1 (enter (startedAt 100_000) (buy 10 101_500 ∷ sell 10 101_500 ∷ []))) ≡ numbers 1 101_500 10 1)
+      × (openingOf 100_000 (buy 10 101_400 ∷ sell 10 101_400 ∷ []) ≡ numbers 1 101_400 10 1)
 
-abbrev opened : ℕ → Session
-opened reference = started freshSession (parameters reference) .session
-
-abbrev day : ℕ → ℕ → Limit → Entry
-day side quantity limit = record { member = 7; side = side; validity = 3; quantity = quantity; limit = limit }
-
-abbrev with : Session → List Entry → Session
-with s [] = s
-with s (e ∷ es) = with (entered s e .session) es
-
-p1 : entered (opened 100000) (day 1 1 (At 899900)) .answer ≡ 0
-unfolding started entered firstHit total bit orderOf stored least
-p1 = refl
-
-p5 : theoretical (with (opened 100000) (day 1 100 (At 100500) ∷ day 2 100 (At 99500) ∷ [])) 1 ≡ record { answer = 0; result = record { outcome = 1; price = 100000; quantity = 100; count = 1 } }
-unfolding started entered firstHit total bit orderOf stored least theoretical outcomeOf outcome takingPart restingTo nonOpening mostExecutable auctionPrice interest apart fills tradesOf ranked
-p5 = refl
+-- B1.
+pub p-table : PTable
+unfolding computing
+p-table = record {
+  P1 = (refl, refl);
+  P2 = (refl, refl);
+  P3 = (refl, refl);
+  P4 = (refl, refl);
+  P5 = refl;
+  P6 = (refl, refl);
+  P7 = refl;
+  P8 = (refl, refl);
+  P9 = (refl, refl);
+  P10 = (refl, refl, refl);
+}

@@ -1,10 +1,11 @@
 -- Choosing from a list: the members that pass a test, and the members that no member beats.
-use Prim.Native.Nat.{ℕ, _+_, _≤_, max}
+use Prim.Native.Nat.{ℕ, suc, _+_, _≤_, max}
 use mathlib.Core.Bool.{Bool, true, false, cond, _&&_, _||_}
 use mathlib.Core.Logic.{_⊎_, ⊎-elim}
 use mathlib.Core.Path.{_≡_, refl, ap}
 use mathlib.Core.List.{List, [], _∷_, List·Memᴰ·head, List·Memᴰ·tail, List·Memᴰ·not-nil, List·Memᴰ·cases-cons, List·Memᴰ·eq-of-singleton}
 use lib.Dec.{T, leb}
+use lib.ListN.{length}
 use native.Mathlib.Omega.{arith}
 use Rattle.lists.specs.Tests.{tests, decided, leb-total, and-both, and-intro}
 use Rattle.lists.specs.Sums.{_∈_, counted, sum}
@@ -53,6 +54,14 @@ module _ {A : Type 0} where
       go : (b : Bool) → x ∈ keep f ys → x ∈ cond b (y ∷ keep f ys) (keep f ys)
       go true k = List·Memᴰ·tail k
       go false k = k
+
+  pub keep-length : (f : A → Bool) (xs : List A) → length (keep f xs) ≤ length xs
+  keep-length f [] = omega arith
+  keep-length f (x ∷ xs) = go (f x) (keep-length f xs)
+    where
+      go : (b : Bool) → length (keep f xs) ≤ length xs → length (cond b (x ∷ keep f xs) (keep f xs)) ≤ suc (length xs)
+      go true h = omega arith
+      go false h = omega arith
 
   -- what is kept adds up to what is counted
   pub keep-sum : (f : A → Bool) (w : A → ℕ) (xs : List A) → sum w (keep f xs) ≡ sum (λ x. counted (f x) (w x)) xs

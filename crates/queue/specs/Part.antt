@@ -1,10 +1,13 @@
 -- Who takes part: 01 "Who takes part, and at what rank", first two sentences.
+use Prim.Native.Nat.{_≤_}
 use mathlib.Core.Bool.{Bool, true, false}
 use mathlib.Core.List.{List}
 use lib.Dec.{T}
+use lib.ListN.{length}
 use Rattle.lists.specs.Sums.{_∈_}
-use Rattle.lists.specs.Choice.{keep, keep-elim, keep-intro}
+use Rattle.lists.specs.Choice.{keep, keep-elim, keep-intro, keep-length}
 use Rattle.terms.specs.declared.orders.{Auction.Auction, Auction.the-variants.Opening, Auction.the-variants.Closing, Validity.Validity, Validity.the-variants.AtOpening, Validity.the-variants.AtClose, Validity.the-variants.Day, Validity.the-variants.LaterDay, Order.Order}
+use Rattle.queue.specs.Distinct.{Distinct, distinct-keep}
 
 -- Opening: every resting order except validity 2. Closing: every resting order.
 abbrev pub takesPart : Auction → Validity → Bool
@@ -20,6 +23,14 @@ takingPart a resting = keep (λ o. takesPart a (o .validity)) resting
 pub takingPart-elim : (a : Auction) (resting : List Order) {o : Order} → o ∈ takingPart a resting → (o ∈ resting) × T (takesPart a (o .validity))
 unfolding takingPart
 takingPart-elim a resting m = keep-elim (λ o. takesPart a (o .validity)) resting m
+
+pub takingPart-distinct : (a : Auction) (resting : List Order) → Distinct resting → Distinct (takingPart a resting)
+unfolding takingPart
+takingPart-distinct a resting d = distinct-keep (λ o. takesPart a (o .validity)) resting d
+
+pub takingPart-length : (a : Auction) (resting : List Order) → length (takingPart a resting) ≤ length resting
+unfolding takingPart
+takingPart-length a resting = keep-length (λ o. takesPart a (o .validity)) resting
 
 pub takingPart-intro : (a : Auction) {resting : List Order} {o : Order} → o ∈ resting → T (takesPart a (o .validity)) → o ∈ takingPart a resting
 unfolding takingPart

@@ -1,0 +1,28 @@
+-- Computing: every definition that stays shut by itself, so that a worked example can say `unfolding computing` and hold by `refl`.
+use Rattle.lists.specs.Sums.{apart}
+use Rattle.terms.specs.Orders.{orderOf}
+use Rattle.book.specs.Places.{bit, least, total}
+use Rattle.book.specs.Columns.{stored, cleared}
+use Rattle.book.specs.Resting.{restingTo, findFrom, changedTo}
+use Rattle.queue.specs.Part.{takingPart}
+use Rattle.queue.specs.Rank.{ranked}
+use Rattle.queue.specs.Front.{front}
+use Rattle.price.specs.Interest.{interest}
+use Rattle.price.specs.Candidates.{mostExecutable}
+use Rattle.price.specs.Chain.{auctionPrice}
+use Rattle.auction.specs.Trades.{traded}
+use Rattle.auction.specs.Fills.{fills, tradesOf}
+use Rattle.auction.specs.Outcome.{nonOpening, outcome}
+use Rattle.auction.specs.After.{restOf}
+use Rattle.session.specs.Checks.{firstHit}
+use Rattle.session.specs.Entry.{started, entered, deleted}
+use Rattle.session.specs.Auctions.{outcomeOf, auctioned, theoretical}
+use Rattle.session.specs.Queues.{queued, filledFront}
+use Rattle.records.specs.Fields.{number}
+use Rattle.records.specs.Walk.{recordAt, walkFrom}
+use Rattle.lines.specs.Text.{digits}
+use Rattle.transcript.specs.Transcript.{linesFrom}
+
+unfoldable pub computing : Unit {0}
+unfolding apart orderOf bit least total stored cleared restingTo findFrom changedTo takingPart ranked front interest mostExecutable auctionPrice traded fills tradesOf nonOpening outcome restOf firstHit started entered deleted outcomeOf auctioned theoretical queued filledFront number recordAt walkFrom digits linesFrom
+computing = tt

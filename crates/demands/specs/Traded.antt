@@ -1,0 +1,135 @@
+-- "Could more have traded?" (C1 to C6), over the definitions, for the opening and for the closing.
+use Prim.Native.Nat.{ℕ, _+_, _-_, _≤_, _<_}
+use mathlib.Core.Bool.{Bool, true, false, _&&_}
+use mathlib.Core.Option.{some}
+use mathlib.Core.Logic.{_↔_}
+use mathlib.Core.Path.{_≡_, refl, sym, _∙_}
+use mathlib.Core.List.{List, [], map}
+use native.Mathlib.Omega.{arith}
+use lib.Dec.{T}
+use lib.ListN.{length}
+use Rattle.lists.specs.Sums.{_∈_, counted, sum}
+use Rattle.terms.specs.Bounds.{places, maxTrades}
+use Rattle.terms.specs.declared.orders.{Side.Side, Side.the-variants.Buy, Side.the-variants.Sell, Auction.Auction, Auction.the-variants.Opening, Auction.the-variants.Closing, Order.Order}
+use Rattle.queue.specs.Part.{takingPart, takingPart-distinct, takingPart-elim, takingPart-length}
+use Rattle.queue.specs.Distinct.{Distinct}
+use Rattle.queue.specs.Rank.{ahead, onSide, ranked}
+use Rattle.queue.specs.Fill.{front-all}
+use Rattle.price.specs.Interest.{interest, executable}
+use Rattle.price.specs.Chain.{price-best, price-none}
+use Rattle.auction.specs.declared.{Trade.Trade, Outcome.Outcome, Outcome.the-variants.Traded, Outcome.the-variants.NoTrade, Outcome.the-variants.NonOpening, Outcome.the-variants.Delayed}
+use Rattle.auction.specs.Trades.{traded, volume, TradeList, volume-le-executable}
+use Rattle.auction.specs.Pairing.{amount}
+use Rattle.auction.specs.Fills.{fills, tradesOf, trades-none, fills-amount, trades-volume, trades-possible, trades-in-order, trades-positive, traded-side, trades-count}
+use Rattle.auction.specs.Outcome.{nonOpening, prevented, outcome, trades, priceAnswered, quantityAnswered, countAnswered, isHeld, outcome-traded, outcome-no-trade, outcome-prevented, closing-held}
+use Rattle.auction.specs.After.{remaining}
+use Rattle.auction.specs.Left.{nothing-left}
+use Rattle.auction.specs.NonOpening.{Fillable, non-opening-exactly}
+
+-- What every book has: distinct numbers, something open in each order, and no more orders than places.
+pub record Ranged (resting : List Order) : Type 0 where
+  pub distinct : Distinct resting
+  pub live : (o : Order) → o ∈ resting → 0 < o .left
+  pub few : length resting ≤ places
+
+-- An auction of the resting orders: its mark, threshold and reference price are any.
+module _ (a : Auction) (delayed : Bool) (threshold reference : ℕ) (resting : List Order) where
+  -- those taking part, the outcome, its quantity and its trades
+  abbrev pub book : List Order
+  book = takingPart a resting
+
+  abbrev pub result : Outcome
+  result = outcome a delayed threshold reference book
+
+  abbrev pub quantity : ℕ
+  quantity = quantityAnswered result
+
+  abbrev pub done : List Trade
+  done = trades result book
+
+  -- of an auction that is not held back: at its price both sides have the quantity, and no price executes more
+  record Held (o : Outcome) : Type 0 where
+    enough : (s : Side) → quantityAnswered o ≤ interest s (priceAnswered o) book
+    best : (q : ℕ) → executable book q ≤ quantityAnswered o
+    exact : trades o book ≡ tradesOf (quantityAnswered o) book
+
+  held : T (isHeld result) → Held result
+  held h = go result refl h
+    where
+      smaller : (p q : ℕ) → q ≡ executable book p → (s : Side) → q ≤ interest s p book
+      smaller p q i Buy = omega arith
+      smaller p q i Sell = omega arith
+
+      go : (o : Outcome) → result ≡ o → T (isHeld o) → Held o
+      go (Traded p q) e h =
+          let (found, i) = outcome-traded a delayed threshold reference book p q e in
+          record { enough = smaller p q i; best = λ r. omega (arith, price-best reference book p found r); exact = refl }
+      go NoTrade e h =
+          let none = price-none reference book .0 (outcome-no-trade a delayed threshold reference book e) in
+          record { enough = λ s. omega arith; best = λ r. omega (arith, none r); exact = sym (trades-none book) }
+      go NonOpening e h = absurd h
+      go (Delayed p q) e h = absurd h
+
+  module _ (ranged : Ranged resting) (h : T (isHeld result)) where
+    distinct : Distinct book
+    distinct = takingPart-distinct a resting (ranged .distinct)
+
+    -- C1. No trade list at any price moves more than the auction's quantity.
+    pub no-list-moves-more : (p : ℕ) (others : List Trade) → TradeList p book others → volume others ≤ quantity
+    no-list-moves-more p others possible = omega (arith, volume-le-executable p book others possible, held h .best p)
+
+    -- C2. Bought equals sold: both sides' fills sum to the quantity, what the orders of each side trade does, and so do the trades.
+    pub record BoughtIsSold : Type 0 where
+      pub filled : (s : Side) → amount (fills s quantity book) ≡ quantity
+      pub given : (s : Side) → sum (λ o. counted (onSide s o) (traded s (o .number) done)) book ≡ quantity
+      pub moved : volume done ≡ quantity
+
+    pub bought-is-sold : BoughtIsSold
+    bought-is-sold =
+        let g = held h in
+        record {
+          filled = fills-amount (priceAnswered result) quantity book distinct (g .enough);
+          given = λ s. rw (g .exact) (traded-side (priceAnswered result) quantity book distinct (g .enough) s);
+          moved = rw (g .exact) (trades-volume (priceAnswered result) quantity book distinct (g .enough));
+        }
+
+    -- C3. If an order gets anything, every better ranked order of its side that takes part is filled.
+    pub nobody-passed-over : (s : Side) (x y : Order) → x ∈ book → y ∈ book → T (onSide s x) → T (onSide s y) → T (ahead s x y) → 0 < traded s (y .number) done
+        → traded s (x .number) done ≡ x .left
+    nobody-passed-over s x y mx my sx sy k = let g = held h in rw (g .exact) (trades-in-order (priceAnswered result) quantity book distinct (g .enough) s x y mx my sx sy k)
+
+    -- C4. Nothing left: among what is left of those taking part, the executable quantity at every price is 0.
+    pub nothing-left-could-trade : (q : ℕ) → executable (map (remaining done) book) q ≡ 0
+    nothing-left-could-trade q = let g = held h in rw (g .exact) (nothing-left (priceAnswered result) quantity book distinct (g .enough) (g .best) q)
+
+    -- C6, of the trades: at most 511 and as many as answered, each of a buy and a sell taking part that accept the price, no order beyond its
+    -- quantity, no trade of nothing, summing to the quantity.
+    pub record ListOfTrades : Type 0 where
+      pub counted-as-answered : countAnswered result book ≡ length done
+      pub at-most : length done ≤ maxTrades
+      pub within-limits : TradeList (priceAnswered result) book done
+      pub of-something : (t : Trade) → t ∈ done → 0 < t .quantity
+      pub sums : volume done ≡ quantity
+
+    pub list-of-trades : ListOfTrades
+    list-of-trades =
+        let g = held h in
+        record {
+          counted-as-answered = refl;
+          at-most = rw (g .exact) (omega (arith, trades-count quantity book, takingPart-length a resting, ranged .few));
+          within-limits = rw (g .exact) (trades-possible (priceAnswered result) quantity book distinct (g .enough));
+          of-something = rw (g .exact) (trades-positive (priceAnswered result) quantity book distinct (g .enough) (λ o m. ranged .live o (takingPart-elim a resting m .0)));
+          sums = bought-is-sold .moved;
+        }
+
+-- C5. Non Opening exactly when no trade list at any price fills every unlimited order taking part ..
+pub non-opening-when-unfillable : (delayed : Bool) (threshold reference : ℕ) (resting : List Order) → Distinct resting
+    → (result Opening delayed threshold reference resting ≡ NonOpening) ↔ (Fillable (takingPart Opening resting) → ⊥)
+non-opening-when-unfillable delayed threshold reference resting d =
+    let exactly = non-opening-exactly reference (takingPart Opening resting) (takingPart-distinct Opening resting d) in
+    let prevents = outcome-prevented Opening delayed threshold reference (takingPart Opening resting) in
+    ((λ e. exactly .0 (prevents .0 e)), (λ no. prevents .1 (exactly .1 no)))
+
+-- .. and a closing is never held back
+pub closing-is-held : (delayed : Bool) (threshold reference : ℕ) (resting : List Order) → T (isHeld (result Closing delayed threshold reference resting))
+closing-is-held delayed threshold reference resting = closing-held delayed threshold reference (takingPart Closing resting)
