@@ -1,8 +1,8 @@
 -- After an auction: 01 "Outcomes", what is left of the orders and which rests are deleted.
-use Prim.Native.Nat.{ℕ, _-_}
+use Prim.Native.Nat.{_-_}
 use mathlib.Core.Bool.{Bool, true, false, cond, _||_}
 use mathlib.Core.Option.{Option, none, some}
-use mathlib.Core.List.{List, [], _∷_, map}
+use mathlib.Core.List.{List}
 use lib.Dec.{eqb}
 use Rattle.terms.specs.declared.orders.{Auction.Auction, Auction.the-variants.Opening, Auction.the-variants.Closing, Validity.Validity, Validity.the-variants.AtOpening, Validity.the-variants.AtClose, Validity.the-variants.Day, Validity.the-variants.LaterDay, Order.Order}
 use Rattle.auction.specs.declared.{Trade.Trade}
@@ -37,12 +37,3 @@ leaves a o = eqb (o .left) 0 || ends a (o .validity)
 -- what rests of an order, or nothing
 unfoldable pub restOf : Auction → List Trade → Order → Option Order
 restOf a trades o = cond (leaves a (remaining trades o)) none (some (remaining trades o))
-
-abbrev pub kept : Option Order → List Order → List Order
-kept none os = os
-kept (some o) os = o ∷ os
-
--- the resting orders after outcomes 1 and 2
-abbrev pub restsOf : Auction → List Trade → List Order → List Order
-restsOf a trades [] = []
-restsOf a trades (o ∷ os) = kept (restOf a trades o) (restsOf a trades os)

@@ -1,5 +1,5 @@
 -- The trades: 01 "Outcomes", "both sides are filled in rank order up to the executable quantity. The trades pair the two queues from the front".
-use Prim.Native.Nat.{ℕ, suc, _+_, _-_, _≤_, _<_, min}
+use Prim.Native.Nat.{ℕ, _+_, _-_, _≤_, _<_, min}
 use mathlib.Core.Bool.{Bool, true, _&&_}
 use mathlib.Core.Path.{_≡_, refl, sym, ap, _∙_}
 use mathlib.Core.List.{List, []}
@@ -13,7 +13,7 @@ use Rattle.queue.specs.Sides.{sameSide}
 use Rattle.queue.specs.Distinct.{Distinct, distinct-one, distinct-sum}
 use Rattle.queue.specs.Rank.{onSide, ahead, ranked, ranked-in-order, ranked-elim, ranked-intro, ranked-sum}
 use Rattle.queue.specs.Fill.{Fill, fill, filledBy, hasNumber, FrontPart, ranked-front, front-all, fill-zero, fill-length, fill-le, fill-all, fill-front, fill-passes, fill-in-order, filled-by-number, ranked-distinct}
-use Rattle.price.specs.Interest.{allows, accepts, interest, executable, allows-ahead}
+use Rattle.price.specs.Interest.{allows, accepts, interest, allows-ahead}
 use Rattle.auction.specs.declared.Trade.{Trade}
 use Rattle.auction.specs.Trades.{party, traded, volume, TradeList}
 use Rattle.auction.specs.Pairing.{amount, paired, paired-traded, paired-volume, paired-count, paired-parties, paired-positive}

@@ -1,18 +1,18 @@
 -- Nothing left: among what is left of those taking part, the executable quantity at every price is 0.
-use Prim.Native.Nat.{ℕ, _+_, _-_, _≤_, min}
-use mathlib.Core.Bool.{Bool, true, false, _&&_}
-use mathlib.Core.Path.{_≡_, refl, _∙_}
+use Prim.Native.Nat.{ℕ, _-_, _≤_}
+use mathlib.Core.Bool.{Bool, true, false}
+use mathlib.Core.Path.{_≡_}
 use mathlib.Core.List.{List, map}
 use native.Mathlib.Omega.{arith}
 use lib.Dec.{T}
 use Rattle.lists.specs.Tests.{and-both}
-use Rattle.lists.specs.Sums.{_∈_, counted, sum, sum-less, sum-map, sum-same}
+use Rattle.lists.specs.Sums.{_∈_, counted, sum-less, sum-map, sum-same}
 use Rattle.terms.specs.declared.orders.{Side.Side, Side.the-variants.Buy, Side.the-variants.Sell, Order.Order}
 use Rattle.queue.specs.Sides.{sameSide-eq}
 use Rattle.queue.specs.Distinct.{Distinct}
 use Rattle.queue.specs.Rank.{onSide}
 use Rattle.price.specs.Interest.{allows, accepts, interest, executable}
-use Rattle.auction.specs.Trades.{traded, TradeList}
+use Rattle.auction.specs.Trades.{traded}
 use Rattle.auction.specs.Fills.{tradesOf, allows-front, traded-front, trades-possible}
 use Rattle.auction.specs.After.{remaining}
 

@@ -1,27 +1,25 @@
 -- Non Opening: exactly when no trade list at any price fills every unlimited order taking part.
 use Prim.Native.Nat.{ℕ, _≤_}
-use mathlib.Core.Bool.{Bool, true, false, cond, not, _&&_, _||_}
-use mathlib.Core.Option.{Option, none, some}
+use mathlib.Core.Bool.{Bool, true, false, not, _&&_, _||_}
 use mathlib.Core.Logic.{_↔_, ⊎-elim}
-use mathlib.Core.Path.{_≡_, refl, sym, ap}
+use mathlib.Core.Path.{_≡_, sym}
 use mathlib.Core.List.{List}
 use native.Mathlib.Omega.{arith}
-use lib.Dec.{T, T-not, eqb, eqb→eq, ltb}
-use Rattle.lists.specs.Tests.{tests, and-both, and-intro, or-cases, or-left, or-right, decided, passes, fails}
+use lib.Dec.{T, eqb, eqb→eq, ltb}
+use Rattle.lists.specs.Tests.{tests, and-both, and-intro, or-cases, decided}
 use Rattle.lists.specs.Sums.{_∈_, counted, counted-pass, sum, sum-each, sum-mono, sum-swap}
 use Rattle.lists.specs.Choice.{highest-at}
-use Rattle.terms.specs.declared.orders.{Side.Side, Side.the-variants.Buy, Side.the-variants.Sell, Auction.the-variants.Opening, Limit.Limit, Limit.the-variants.Unlimited, Limit.the-variants.At, Order.Order}
+use Rattle.terms.specs.declared.orders.{Side.Side, Side.the-variants.Buy, Side.the-variants.Sell, Limit.Limit, Limit.the-variants.Unlimited, Limit.the-variants.At, Order.Order}
 use Rattle.queue.specs.Sides.{sameSide-eq, sameSide-refl}
 use Rattle.queue.specs.Distinct.{Distinct, distinct-sum}
-use Rattle.queue.specs.Rank.{onSide, betterLimit, ahead, ahead-limit, ranked, ranked-in-order}
+use Rattle.queue.specs.Rank.{onSide, betterLimit, ahead-limit, ranked, ranked-in-order}
 use Rattle.queue.specs.Fill.{FrontPart, ranked-front}
 use Rattle.price.specs.Interest.{interest, executable}
-use Rattle.price.specs.Candidates.{limits, candidates, mostExecutable}
-use Rattle.price.specs.Chain.{auctionPrice}
-use Rattle.auction.specs.declared.{Trade.Trade, Outcome.Outcome, Outcome.the-variants.NonOpening}
+use Rattle.price.specs.Candidates.{limits, mostExecutable}
+use Rattle.auction.specs.declared.{Trade.Trade}
 use Rattle.auction.specs.Trades.{party, traded, volume, TradeList, volume-le-most}
-use Rattle.auction.specs.Fills.{tradesOf, leftOf, traded-front, trades-possible}
-use Rattle.auction.specs.Outcome.{isUnlimited, unlimited, nonOpening, delays, priced, outcome}
+use Rattle.auction.specs.Fills.{tradesOf, traded-front, trades-possible}
+use Rattle.auction.specs.Outcome.{isUnlimited, unlimited, nonOpening}
 
 -- each unlimited order trades all that it has open
 abbrev pub AllFilled : List Order → List Trade → Type 0

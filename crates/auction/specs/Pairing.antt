@@ -8,7 +8,7 @@ use native.Mathlib.Omega.{arith}
 use lib.ListN.{length}
 use lib.Dec.{T, leb, leb→le, le→leb, eqb}
 use Rattle.lists.specs.Tests.{tests, decided}
-use Rattle.lists.specs.Sums.{_∈_, counted, counted-le, counted-cut, sum, sum-mono}
+use Rattle.lists.specs.Sums.{_∈_, counted, counted-le, counted-cut, sum-mono}
 use Rattle.terms.specs.declared.orders.{Side.the-variants.Buy, Side.the-variants.Sell}
 use Rattle.queue.specs.Fill.{Fill, filledBy, hasNumber}
 use Rattle.auction.specs.declared.Trade.{Trade}

@@ -1,7 +1,6 @@
 -- Columns: how an order stands at a place, and what storing and clearing change.
 use Prim.Native.Nat.{ℕ}
-use mathlib.Core.Bool.{Bool, cond}
-use mathlib.Core.List.{List}
+use mathlib.Core.Bool.{cond}
 use lib.Dec.{eqb}
 use lib.ListN.{getD, set, replicate}
 use Rattle.terms.specs.Bounds.{places}

@@ -4,7 +4,6 @@ use mathlib.Core.List.{List, [], _∷_}
 use lib.ListN.{replicate}
 use Rattle.terms.specs.Bounds.{tradeListLength}
 use Rattle.terms.specs.declared.orders.{Limit.Limit, Limit.the-variants.Unlimited, Limit.the-variants.At, Entry.Entry}
-use Rattle.terms.specs.declared.parameters.{Parameters.Parameters}
 use Rattle.session.specs.declared.{Session.Session, AuctionAnswer.AuctionAnswer}
 use Rattle.session.specs.Entry.{freshSession, started, entered}
 use Rattle.session.specs.Auctions.{auctioned}

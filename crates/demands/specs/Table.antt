@@ -1,7 +1,6 @@
 -- The P table: 01 "Sums to check by hand", P1 to P10, over the definitions of the calls.
-use Prim.Native.Nat.{ℕ}
 use mathlib.Core.Path.{_≡_, refl}
-use mathlib.Core.List.{List, [], _∷_}
+use mathlib.Core.List.{[], _∷_}
 use Rattle.demands.specs.Computing.{computing}
 use Rattle.demands.specs.Sessions.{startedAt, buy, sell, buyAny, sellAny, entryAnswer, enter, held, after, openingOf, numbers}
 

@@ -1,10 +1,9 @@
 -- "Could more have traded?" (C1 to C6), over the definitions, for the opening and for the closing.
-use Prim.Native.Nat.{ℕ, _+_, _-_, _≤_, _<_}
-use mathlib.Core.Bool.{Bool, true, false, _&&_}
-use mathlib.Core.Option.{some}
+use Prim.Native.Nat.{ℕ, _≤_, _<_}
+use mathlib.Core.Bool.{Bool}
 use mathlib.Core.Logic.{_↔_}
-use mathlib.Core.Path.{_≡_, refl, sym, _∙_}
-use mathlib.Core.List.{List, [], map}
+use mathlib.Core.Path.{_≡_, refl, sym}
+use mathlib.Core.List.{List, map}
 use native.Mathlib.Omega.{arith}
 use lib.Dec.{T}
 use lib.ListN.{length}
@@ -13,15 +12,14 @@ use Rattle.terms.specs.Bounds.{places, maxTrades}
 use Rattle.terms.specs.declared.orders.{Side.Side, Side.the-variants.Buy, Side.the-variants.Sell, Auction.Auction, Auction.the-variants.Opening, Auction.the-variants.Closing, Order.Order}
 use Rattle.queue.specs.Part.{takingPart, takingPart-distinct, takingPart-elim, takingPart-length}
 use Rattle.queue.specs.Distinct.{Distinct}
-use Rattle.queue.specs.Rank.{ahead, onSide, ranked}
-use Rattle.queue.specs.Fill.{front-all}
+use Rattle.queue.specs.Rank.{ahead, onSide}
 use Rattle.price.specs.Interest.{interest, executable}
 use Rattle.price.specs.Chain.{price-best, price-none}
 use Rattle.auction.specs.declared.{Trade.Trade, Outcome.Outcome, Outcome.the-variants.Traded, Outcome.the-variants.NoTrade, Outcome.the-variants.NonOpening, Outcome.the-variants.Delayed}
 use Rattle.auction.specs.Trades.{traded, volume, TradeList, volume-le-executable}
 use Rattle.auction.specs.Pairing.{amount}
 use Rattle.auction.specs.Fills.{fills, tradesOf, trades-none, fills-amount, trades-volume, trades-possible, trades-in-order, trades-positive, traded-side, trades-count}
-use Rattle.auction.specs.Outcome.{nonOpening, prevented, outcome, trades, priceAnswered, quantityAnswered, countAnswered, isHeld, outcome-traded, outcome-no-trade, outcome-prevented, closing-held}
+use Rattle.auction.specs.Outcome.{outcome, trades, priceAnswered, quantityAnswered, countAnswered, isHeld, outcome-traded, outcome-no-trade, outcome-prevented, closing-held}
 use Rattle.auction.specs.After.{remaining}
 use Rattle.auction.specs.Left.{nothing-left}
 use Rattle.auction.specs.NonOpening.{Fillable, non-opening-exactly}

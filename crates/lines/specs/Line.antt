@@ -2,7 +2,6 @@
 use Prim.Native.Nat.{ℕ}
 use mathlib.Core.List.{List, [], _∷_, _++_}
 use Rattle.auction.specs.declared.{Trade.Trade}
-use Rattle.session.specs.declared.{AuctionAnswer.AuctionAnswer}
 use Rattle.lines.specs.declared.{Answer.Answer}
 use Rattle.lines.specs.Text.{decimal, space, newline, startWord, orderWord, deleteWord, auctionWord, tradeWord, faultWord, endWord}
 

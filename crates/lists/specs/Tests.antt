@@ -3,7 +3,7 @@ use mathlib.Core.Bool.{Bool, true, false, not, _&&_, _||_}
 use mathlib.Core.Logic.{_⊎_, inl, inr, ⊎-map}
 use mathlib.Core.Path.{_≡_, refl}
 use Prim.Native.Nat.{ℕ}
-use lib.Dec.{T, leb, ltb, eqb, leb→le, le→leb, nleb→lt, ltb→lt, lt→ltb, nltb→le}
+use lib.Dec.{T, leb, leb→le, le→leb, nleb→lt, ltb→lt, lt→ltb, nltb→le}
 use native.Mathlib.Omega.{arith}
 
 -- what omega needs to read and to prove `T (leb m n)` and `T (ltb m n)`

@@ -9,7 +9,7 @@ use lib.Dec.{T, leb, ltb, ltb→lt}
 use native.Mathlib.Omega.{arith}
 use Rattle.lists.specs.Tests.{tests, decided}
 use Rattle.lists.specs.Sums.{_∈_, apart, apart-le, le-apart}
-use Rattle.lists.specs.Choice.{all, smallest, largest, smallest-elim, smallest-intro, largest-elim, largest-intro, smallest-some, largest-some, highest, highest-at, le-highest}
+use Rattle.lists.specs.Choice.{all, smallest, largest, smallest-elim, smallest-intro, largest-elim, largest-intro, smallest-some, largest-some, highest-at, le-highest}
 use Rattle.terms.specs.declared.orders.{Side.the-variants.Buy, Side.the-variants.Sell, Order.Order}
 use Rattle.price.specs.Interest.{interest, demand, supply, executable, difference, interest-mono}
 use Rattle.price.specs.Candidates.{candidates, limits, mostExecutable, candidate-as-good}

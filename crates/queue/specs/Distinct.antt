@@ -1,11 +1,11 @@
 -- Numbers are distinct: 01 "A number is never given twice". The one premise of the laws of rank and of demand 3.
 use Prim.Native.Nat.{ℕ, _+_, _≤_}
-use mathlib.Core.Bool.{Bool, true, false, cond, _&&_}
+use mathlib.Core.Bool.{Bool, true, false, cond}
 use mathlib.Core.Logic.{_≢_}
-use mathlib.Core.Path.{_≡_, refl, sym, ap, _∙_}
+use mathlib.Core.Path.{_≡_, refl, sym, _∙_}
 use mathlib.Core.List.{List, [], _∷_, List·Memᴰ·head, List·Memᴰ·tail}
 use native.Mathlib.Omega.{arith}
-use lib.Dec.{T, eqb}
+use lib.Dec.{T}
 use Rattle.lists.specs.Sums.{_∈_, counted, sum}
 use Rattle.lists.specs.Choice.{keep, keep-elim}
 use Rattle.terms.specs.declared.orders.{Order.Order}

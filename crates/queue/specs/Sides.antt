@@ -1,7 +1,7 @@
 -- The two sides, by one order on prices each; every law is said and proved once for both.
 use Prim.Native.Nat.{ℕ}
-use mathlib.Core.Bool.{Bool, true, false, not}
-use mathlib.Core.Logic.{_⊎_, ⊎-map}
+use mathlib.Core.Bool.{Bool, true, false}
+use mathlib.Core.Logic.{_⊎_}
 use mathlib.Core.Path.{_≡_, refl}
 use lib.Dec.{T, leb}
 use Rattle.lists.specs.Tests.{tests, leb-total}

@@ -1,13 +1,12 @@
 -- The auction and the theoretical answer: what each call returns and leaves, refusals included.
 use Prim.Native.Nat.{ℕ, zero, suc, _*_}
-use mathlib.Core.Bool.{Bool, true, false, not}
+use mathlib.Core.Bool.{true, not}
 use mathlib.Core.List.{List, [], _∷_, _++_}
 use lib.Dec.{ltb}
 use lib.ListN.{length, drop}
 use Rattle.terms.specs.Bounds.{tradeListLength, numbersPerTrade}
 use Rattle.terms.specs.Orders.{isAuction, auctionOf}
 use Rattle.terms.specs.declared.orders.{Auction.Auction, AuctionMade.AuctionMade, Order.Order}
-use Rattle.book.specs.declared.Book.{Book}
 use Rattle.book.specs.Resting.{resting, changed}
 use Rattle.queue.specs.Part.{takingPart}
 use Rattle.auction.specs.declared.{Trade.Trade, Outcome.Outcome, Outcome.the-variants.Traded, Outcome.the-variants.NoTrade, Outcome.the-variants.NonOpening, Outcome.the-variants.Delayed}

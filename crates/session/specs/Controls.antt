@@ -1,6 +1,6 @@
 -- Controls 5 to 8 of 01 "Refusals by number" (004 clause 10): a limit or a value that reaches its bound is a hit.
 use Prim.Native.Nat.{ℕ, _*_}
-use mathlib.Core.Bool.{Bool, true, false, not, _||_}
+use mathlib.Core.Bool.{Bool, false, not, _||_}
 use lib.Dec.{leb}
 use Rattle.terms.specs.Kinds.{isMultiple, valueOf}
 use Rattle.terms.specs.declared.orders.{Limit.Limit, Limit.the-variants.Unlimited, Limit.the-variants.At}

@@ -1,6 +1,6 @@
 -- Phases: 01 "Phases", and the phase rules of "Refusals by number".
 use Prim.Native.Nat.{ℕ}
-use mathlib.Core.Bool.{Bool, true, false, not, _&&_, _||_}
+use mathlib.Core.Bool.{Bool, true, false, not}
 use lib.Dec.{eqb}
 use Rattle.terms.specs.declared.orders.{Auction.Auction, Auction.the-variants.Opening, Auction.the-variants.Closing}
 use Rattle.session.specs.declared.Phase.{Phase}

@@ -1,12 +1,12 @@
 -- The ranked queue and the filled front: what each call returns and leaves, refusals included.
 use Prim.Native.Nat.{ℕ, zero, suc}
-use mathlib.Core.Bool.{Bool, true, false, not, _&&_, _||_}
+use mathlib.Core.Bool.{not, _&&_, _||_}
 use mathlib.Core.List.{List, [], _∷_, _++_, map}
 use lib.Dec.{ltb}
 use lib.ListN.{length, drop}
 use Rattle.terms.specs.Bounds.{places}
 use Rattle.terms.specs.Orders.{isSide, isAuction, sideOf, auctionOf}
-use Rattle.terms.specs.declared.orders.{Side.Side, Side.the-variants.Buy, Side.the-variants.Sell, SideMade.SideMade, Auction.Auction, AuctionMade.AuctionMade, Order.Order}
+use Rattle.terms.specs.declared.orders.{Side.Side, Side.the-variants.Buy, Side.the-variants.Sell, SideMade.SideMade, Auction.Auction, AuctionMade.AuctionMade}
 use Rattle.queue.specs.Rank.{ranked}
 use Rattle.queue.specs.Front.{front}
 use Rattle.session.specs.declared.{Session.Session, Queued.Queued}

@@ -1,6 +1,6 @@
 -- Orders: 01 "Numbers and their bounds", its last paragraph.
 use Prim.Native.Nat.{ℕ, zero, suc}
-use lib.Dec.{T, eqb}
+use lib.Dec.{eqb}
 use mathlib.Core.Bool.{Bool, true, false, _&&_, cond}
 use mathlib.Core.Path.{_≡_}
 use Rattle.terms.specs.Kinds.{within, isPrice, isQuantity, isMember}
@@ -8,11 +8,9 @@ use Rattle.terms.specs.declared.orders.Side.{Side}
 use Rattle.terms.specs.declared.orders.Side.the-variants.{Buy, Sell}
 use Rattle.terms.specs.declared.orders.Validity.{Validity}
 use Rattle.terms.specs.declared.orders.Validity.the-variants.{AtOpening, AtClose, Day, LaterDay}
-use Rattle.terms.specs.declared.orders.Auction.{Auction}
 use Rattle.terms.specs.declared.orders.Auction.the-variants.{Opening, Closing}
 use Rattle.terms.specs.declared.orders.Limit.{Limit}
 use Rattle.terms.specs.declared.orders.Limit.the-variants.{Unlimited, At}
-use Rattle.terms.specs.declared.orders.Order.{Order}
 use Rattle.terms.specs.declared.orders.Entry.{Entry}
 use Rattle.terms.specs.declared.orders.SideMade.{SideMade}
 use Rattle.terms.specs.declared.orders.ValidityMade.{ValidityMade}

@@ -3,7 +3,6 @@ use Prim.Native.Nat.{ℕ}
 use mathlib.Core.Bool.{Bool, true, false, _&&_}
 use mathlib.Core.Path.{_≡_}
 use Rattle.terms.specs.Kinds.{isStep, isReference, isFactor, isThreshold, isOrderValue}
-use Rattle.terms.specs.declared.parameters.Parameters.{Parameters}
 use Rattle.terms.specs.declared.parameters.ParametersMade.{ParametersMade}
 
 abbrev pub areParameters : ℕ → ℕ → ℕ → ℕ → ℕ → Bool

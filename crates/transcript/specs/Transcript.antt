@@ -11,7 +11,7 @@ use Rattle.session.specs.declared.{Session.Session, Started.Started, Entered.En
 use Rattle.session.specs.Entry.{freshSession, started, entered, deleted}
 use Rattle.session.specs.Auctions.{auctioned, tradesNow}
 use Rattle.records.specs.declared.{Record.Record}
-use Rattle.records.specs.Walk.{Walk, walk}
+use Rattle.records.specs.Walk.{walk}
 use Rattle.lines.specs.declared.{Answer.Answer}
 use Rattle.lines.specs.Line.{lineOf, tradeLines, faultLine, endLine}
 
