@@ -6,3 +6,4 @@ pub mod Outcome
 pub mod After
 pub mod Left
 pub mod NonOpening
+pub mod Examples

@@ -17,10 +17,6 @@ pub passes : (b : Bool) → T b → b ≡ true
 passes true h = refl
 passes false h = absurd h
 
-pub fails : (b : Bool) → T (not b) → b ≡ false
-fails true h = absurd h
-fails false h = refl
-
 pub and-both : (a b : Bool) → T (a && b) → T a × T b
 and-both true b h = (tt, h)
 and-both false b h = absurd h

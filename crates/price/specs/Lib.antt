@@ -3,3 +3,4 @@ pub mod Interest
 pub mod Candidates
 pub mod Chain
 pub mod Legal
+pub mod Examples

@@ -5,3 +5,4 @@ pub mod Distinct
 pub mod Rank
 pub mod Fill
 pub mod Front
+pub mod Examples

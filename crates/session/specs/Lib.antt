@@ -5,3 +5,7 @@ pub mod Controls
 pub mod Entry
 pub mod Auctions
 pub mod Queues
+pub mod Computing
+pub mod Samples
+pub mod Table
+pub mod Sums

@@ -3,3 +3,4 @@ pub mod Bounds
 pub mod Kinds
 pub mod Orders
 pub mod Parameters
+pub mod Samples

@@ -2,8 +2,11 @@
 use Prim.Native.Nat.{ℕ}
 use mathlib.Core.Path.{_≡_, refl}
 use mathlib.Core.List.{List, [], _∷_}
-use Rattle.transcript.specs.Transcript.{printed}
-use Rattle.demands.specs.Computing.{computing}
+use Rattle.session.specs.Computing.{computing}
+use Rattle.records.specs.Fields.{number}
+use Rattle.records.specs.Walk.{recordAt, walkFrom}
+use Rattle.lines.specs.Text.{digits}
+use Rattle.transcript.specs.Transcript.{linesFrom, printed}
 
 -- start; buy 50 at 100,200; buy 50 at 100,400; buy 50 at 100,200; sell 80 at 100,200; opening
 abbrev workedFile : List ℕ
@@ -31,5 +34,5 @@ workedOutput =
     ∷ []
 
 pub worked : printed workedFile ≡ workedOutput
-unfolding computing
+unfolding computing number recordAt walkFrom digits linesFrom
 worked = refl

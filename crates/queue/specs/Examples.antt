@@ -1,0 +1,48 @@
+-- Worked examples: who takes part, rank, filling and the filled front.
+use Prim.Native.Nat.{ℕ}
+use mathlib.Core.Path.{_≡_, refl}
+use mathlib.Core.List.{List, [], _∷_, map}
+use Rattle.terms.specs.Samples.{order, buy, sell, buyAny}
+use Rattle.terms.specs.declared.orders.{Side.the-variants.Buy, Side.the-variants.Sell, Validity.the-variants.AtOpening, Validity.the-variants.AtClose, Validity.the-variants.Day, Validity.the-variants.LaterDay, Auction.the-variants.Opening, Auction.the-variants.Closing, Limit.the-variants.At, Order.Order}
+use Rattle.queue.specs.Part.{takingPart}
+use Rattle.queue.specs.Rank.{ranked}
+use Rattle.queue.specs.Fill.{fill}
+use Rattle.queue.specs.Front.{front}
+
+abbrev numbersOf : List Order → List ℕ
+numbersOf os = map (λ o. o .number) os
+
+-- one order of each validity
+abbrev four : List Order
+four = order 1 Buy AtOpening 5 (At 100) ∷ order 2 Buy AtClose 5 (At 100) ∷ order 3 Buy Day 5 (At 100) ∷ order 4 Buy LaterDay 5 (At 100) ∷ []
+
+-- the opening leaves at-the-close orders out; the closing leaves none out
+at-the-opening : numbersOf (takingPart Opening four) ≡ 1 ∷ 3 ∷ 4 ∷ []
+unfolding takingPart
+at-the-opening = refl
+
+at-the-closing : numbersOf (takingPart Closing four) ≡ 1 ∷ 2 ∷ 3 ∷ 4 ∷ []
+unfolding takingPart
+at-the-closing = refl
+
+-- orders 9 and 8 stand at places that were freed and reused: number, not place, decides at one limit
+abbrev mixed : List Order
+mixed = buy 9 10 200 ∷ buy 2 20 200 ∷ sell 3 30 150 ∷ buyAny 8 40 ∷ sell 4 50 100 ∷ buy 5 60 300 ∷ []
+
+buys-ranked : numbersOf (ranked Buy mixed) ≡ 8 ∷ 5 ∷ 2 ∷ 9 ∷ []
+unfolding ranked
+buys-ranked = refl
+
+sells-ranked : numbersOf (ranked Sell mixed) ≡ 4 ∷ 3 ∷ []
+unfolding ranked
+sells-ranked = refl
+
+-- 110 fills orders 8 and 5 and 10 of order 2; nothing is left for order 9
+filled : map (λ x. x .quantity) (fill 110 (ranked Buy mixed)) ≡ 40 ∷ 60 ∷ 10 ∷ []
+unfolding ranked
+filled = refl
+
+-- the longest front part whose sum is at most the total; a total that is just reached counts
+fronts : front 60 (10 ∷ 50 ∷ 0 ∷ 1 ∷ []) ≡ 10 ∷ 50 ∷ 0 ∷ []
+unfolding front
+fronts = refl
