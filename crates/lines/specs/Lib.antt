@@ -1,3 +1,4 @@
 -- The printed lines: 01 "Session file".
 pub mod Text
 pub mod Line
+pub mod Examples

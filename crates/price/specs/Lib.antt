@@ -4,3 +4,4 @@ pub mod Candidates
 pub mod Chain
 pub mod Legal
 pub mod Examples
+pub mod Clause7

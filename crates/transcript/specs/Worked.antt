@@ -36,3 +36,23 @@ workedOutput =
 pub worked : printed workedFile ≡ workedOutput
 unfolding computing number recordAt walkFrom digits linesFrom
 worked = refl
+
+-- an opening before any start, and a record that is cut: an answer, a fault at its place, and a count without it
+abbrev cutFile : List ℕ
+cutFile = 5 ∷ 0 ∷ 4 ∷ 0 ∷ 1 ∷ 5 ∷ 0 ∷ 4 ∷ 0 ∷ []
+
+abbrev cutOutput : List ℕ
+cutOutput =
+    49 ∷ 32 ∷ 97 ∷ 117 ∷ 99 ∷ 116 ∷ 105 ∷ 111 ∷ 110 ∷ 32 ∷ 50 ∷ 32 ∷ 48 ∷ 32 ∷ 48 ∷ 32 ∷ 48 ∷ 32 ∷ 48 ∷ 10
+    ∷ 50 ∷ 32 ∷ 102 ∷ 97 ∷ 117 ∷ 108 ∷ 116 ∷ 32 ∷ 49 ∷ 10
+    ∷ 101 ∷ 110 ∷ 100 ∷ 32 ∷ 49 ∷ 10
+    ∷ []
+
+pub cut : printed cutFile ≡ cutOutput
+unfolding computing number recordAt walkFrom digits linesFrom
+cut = refl
+
+-- an empty file prints `end 0`
+pub empty : printed [] ≡ 101 ∷ 110 ∷ 100 ∷ 32 ∷ 48 ∷ 10 ∷ []
+unfolding computing number recordAt walkFrom digits linesFrom
+empty = refl
