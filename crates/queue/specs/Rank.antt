@@ -25,9 +25,12 @@ betterLimit s Unlimited (At q) = true
 betterLimit s (At p) Unlimited = false
 betterLimit s (At p) (At q) = betterPrice s p q
 
--- .. then the lower number
+-- .. then, where neither limit is better, the lower number
+abbrev pub earlier : Side → Order → Order → Bool
+earlier s a b = not (betterLimit s (b .limit) (a .limit)) && ltb (a .number) (b .number)
+
 abbrev pub ahead : Side → Order → Order → Bool
-ahead s a b = betterLimit s (a .limit) (b .limit) || (not (betterLimit s (b .limit) (a .limit)) && ltb (a .number) (b .number))
+ahead s a b = betterLimit s (a .limit) (b .limit) || earlier s a b
 
 abbrev pub onSide : Side → Order → Bool
 onSide s o = sameSide s (o .side)
@@ -73,24 +76,20 @@ betterLimit-trans s (At p) Unlimited w h k = absurd h
 betterLimit-trans s (At p) (At q) Unlimited h k = k
 betterLimit-trans s (At p) (At q) (At r) h k = betterPrice-trans s p q r h k
 
--- a limit that is not worse, and then the number
-abbrev levelAhead : Side → Order → Order → Bool
-levelAhead s a b = not (betterLimit s (b .limit) (a .limit)) && ltb (a .number) (b .number)
-
--- of two that are ahead, the limit of the one is not better than that of the other
+-- the limit of one that is behind is not better
 pub ahead-limit : (s : Side) (a b : Order) → T (ahead s a b) → T (not (betterLimit s (b .limit) (a .limit)))
 ahead-limit s a b h =
     ⊎-elim
     (λ k. not-T (betterLimit s (b .limit) (a .limit)) (λ l. betterLimit-irrefl s (a .limit) (betterLimit-trans s (a .limit) (b .limit) (a .limit) k l)))
     (λ k. and-both (not (betterLimit s (b .limit) (a .limit))) _ k .0)
-    (or-cases (betterLimit s (a .limit) (b .limit)) (levelAhead s a b) h)
+    (or-cases (betterLimit s (a .limit) (b .limit)) (earlier s a b) h)
 
 pub ahead-irrefl : (s : Side) (a : Order) → T (ahead s a a) → ⊥
 ahead-irrefl s a h =
     ⊎-elim
     (betterLimit-irrefl s (a .limit))
     (λ k. let l = and-both (not (betterLimit s (a .limit) (a .limit))) _ k .1 in omega tests)
-    (or-cases (betterLimit s (a .limit) (a .limit)) (levelAhead s a a) h)
+    (or-cases (betterLimit s (a .limit) (a .limit)) (earlier s a a) h)
 
 pub ahead-total : (s : Side) (a b : Order) → a .number ≢ b .number → T (ahead s a b) ⊎ T (ahead s b a)
 ahead-total s a b n =
@@ -117,8 +116,8 @@ ahead-trans s a b c h k =
     or-right (betterLimit s (a .limit) (c .limit)) _ (and-intro (not (betterLimit s (c .limit) (a .limit))) _
     (not-T (betterLimit s (c .limit) (a .limit)) (λ ca. ⊎-elim (λ cb. T-not (betterLimit s (c .limit) (b .limit)) (ahead-limit s b c k) cb) (λ ba. T-not (betterLimit s (b .limit) (a .limit)) (ahead-limit s a b h) ba) (betterLimit-or s (c .limit) (b .limit) (a .limit) ca)))
     (omega tests)))
-    (or-cases (betterLimit s (b .limit) (c .limit)) (levelAhead s b c) k))
-    (or-cases (betterLimit s (a .limit) (b .limit)) (levelAhead s a b) h)
+    (or-cases (betterLimit s (b .limit) (c .limit)) (earlier s b c) k))
+    (or-cases (betterLimit s (a .limit) (b .limit)) (earlier s a b) h)
 
 distinct-comparable : (s : Side) (os : List Order) → Distinct os → Comparable (ahead s) os
 distinct-comparable s [] d = tt
