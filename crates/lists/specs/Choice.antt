@@ -83,15 +83,19 @@ module _ {A : Type 0} where
   leaders-intro asGood {x} {xs} m h = keep-intro (λ x. all (asGood x) xs) m (all-intro (asGood x) xs h)
 
   -- where of any two one is as good as the other, a list with members has leaders
-  pub leaders-some : (asGood : A → A → Bool) → ((x y : A) → T (asGood x y) ⊎ T (asGood y x)) → ((x y z : A) → T (asGood x y) → T (asGood y z) → T (asGood x z))
-      → (x : A) (xs : List A) → (c : A) × (c ∈ (x ∷ xs)) × ((y : A) → y ∈ (x ∷ xs) → T (asGood c y))
-  leaders-some asGood total trans x [] = (x, List·Memᴰ·head refl, λ y m. rw (List·Memᴰ·eq-of-singleton m) (⊎-elim (λ t. t) (λ t. t) (total x x)))
-  leaders-some asGood total trans x (z ∷ zs) =
-      let (c, m, leads) = leaders-some asGood total trans z zs in
-      ⊎-elim
-      (λ h. (x, List·Memᴰ·head refl, λ y n. ⊎-elim (λ e. rw e (⊎-elim (λ t. t) (λ t. t) (total x x))) (λ k. trans x c y h (leads y k)) (List·Memᴰ·cases-cons n)))
-      (λ h. (c, List·Memᴰ·tail m, λ y n. ⊎-elim (λ e. rw e h) (λ k. leads y k) (List·Memᴰ·cases-cons n)))
-      (total x c)
+  module _ (asGood : A → A → Bool) (total : (x y : A) → T (asGood x y) ⊎ T (asGood y x)) (trans : (x y z : A) → T (asGood x y) → T (asGood y z) → T (asGood x z)) where
+    leads : (x : A) (xs : List A) → (c : A) × (c ∈ (x ∷ xs)) × ((y : A) → y ∈ (x ∷ xs) → T (asGood c y))
+    leads x [] = (x, List·Memᴰ·head refl, λ y m. rw (List·Memᴰ·eq-of-singleton m) (⊎-elim (λ t. t) (λ t. t) (total x x)))
+    leads x (z ∷ zs) =
+        let (c, m, first) = leads z zs in
+        ⊎-elim
+        (λ h. (x, List·Memᴰ·head refl, λ y n. ⊎-elim (λ e. rw e (⊎-elim (λ t. t) (λ t. t) (total x x))) (λ k. trans x c y h (first y k)) (List·Memᴰ·cases-cons n)))
+        (λ h. (c, List·Memᴰ·tail m, λ y n. ⊎-elim (λ e. rw e h) (λ k. first y k) (List·Memᴰ·cases-cons n)))
+        (total x c)
+
+    pub leaders-found : {x : A} (xs : List A) → x ∈ xs → (c : A) × (c ∈ leaders asGood xs)
+    leaders-found [] m = absurd (List·Memᴰ·not-nil m)
+    leaders-found (x ∷ xs) m = let (c, listed, first) = leads x xs in (c, leaders-intro asGood listed first)
 
 -- .. by a measure: where it is smallest, and where it is largest
 abbrev pub less : (ℕ → ℕ) → ℕ → ℕ → Bool
@@ -116,16 +120,10 @@ pub largest-intro : (f : ℕ → ℕ) {x : ℕ} {xs : List ℕ} → x ∈ xs →
 largest-intro f m h = leaders-intro _ m (λ y n. omega (tests, h y n))
 
 pub smallest-some : (f : ℕ → ℕ) {x : ℕ} (xs : List ℕ) → x ∈ xs → (c : ℕ) × (c ∈ smallest f xs)
-smallest-some f [] m = absurd (List·Memᴰ·not-nil m)
-smallest-some f (x ∷ xs) m =
-    let (c, listed, leads) = leaders-some (less f) (λ x y. leb-total (f x) (f y)) (λ x y z h k. omega tests) x xs in
-    (c, leaders-intro (less f) listed leads)
+smallest-some f xs m = leaders-found (less f) (λ x y. leb-total (f x) (f y)) (λ x y z h k. omega tests) xs m
 
 pub largest-some : (f : ℕ → ℕ) {x : ℕ} (xs : List ℕ) → x ∈ xs → (c : ℕ) × (c ∈ largest f xs)
-largest-some f [] m = absurd (List·Memᴰ·not-nil m)
-largest-some f (x ∷ xs) m =
-    let (c, listed, leads) = leaders-some (λ x y. less f y x) (λ x y. leb-total (f y) (f x)) (λ x y z h k. omega tests) x xs in
-    (c, leaders-intro (λ x y. less f y x) listed leads)
+largest-some f xs m = leaders-found (λ x y. less f y x) (λ x y. leb-total (f y) (f x)) (λ x y z h k. omega tests) xs m
 
 -- the largest value of a measure
 abbrev pub highest : (ℕ → ℕ) → List ℕ → ℕ

@@ -2,14 +2,14 @@
 use Prim.Native.Nat.{ℕ, _≤_, _<_}
 use mathlib.Core.Bool.{Bool, true, false, cond}
 use mathlib.Core.Option.{Option, none, some}
-use mathlib.Core.Logic.{⊎-elim, _↔_}
+use mathlib.Core.Logic.{_⊎_, ⊎-elim, ⊎-map, _↔_}
 use mathlib.Core.Path.{_≡_, refl}
 use mathlib.Core.List.{List, [], _∷_, List·Memᴰ·head, List·Memᴰ·not-nil}
 use lib.Dec.{T, leb, ltb, ltb→lt}
 use native.Mathlib.Omega.{arith}
 use Rattle.lists.specs.Tests.{tests, decided}
 use Rattle.lists.specs.Sums.{_∈_, apart, apart-le, le-apart}
-use Rattle.lists.specs.Choice.{all, smallest, largest, smallest-elim, smallest-intro, largest-elim, largest-intro, smallest-some, largest-some, highest-at, le-highest}
+use Rattle.lists.specs.Choice.{all, leaders, smallest, largest, leaders-elim, leaders-found, smallest-elim, smallest-intro, largest-elim, largest-intro, smallest-some, largest-some, highest-at, le-highest}
 use Rattle.terms.specs.declared.orders.{Side.the-variants.Buy, Side.the-variants.Sell, Order.Order}
 use Rattle.price.specs.Interest.{interest, demand, supply, executable, difference, interest-mono}
 use Rattle.price.specs.Candidates.{candidates, limits, mostExecutable, candidate-as-good}
@@ -27,13 +27,13 @@ supplyExceeds book p = ltb (demand book p) (supply book p)
 
 -- 3. If demand exceeds supply at all of them, take the highest. If supply exceeds demand at all, take the lowest.
 -- 4. Otherwise take the one nearest to the reference price.
-abbrev pub taken : Bool → Bool → ℕ → List ℕ → List ℕ
-taken true supplyAtAll reference ps = largest (λ p. p) ps
-taken false true reference ps = smallest (λ p. p) ps
-taken false false reference ps = smallest (apart reference) ps
+abbrev pub preferred : Bool → Bool → ℕ → ℕ → ℕ → Bool
+preferred true supplyAtAll reference p q = leb q p
+preferred false true reference p q = leb p q
+preferred false false reference p q = leb (apart reference p) (apart reference q)
 
 abbrev pub settled : ℕ → List Order → List ℕ → List ℕ
-settled reference book ps = taken (all (demandExceeds book) ps) (all (supplyExceeds book) ps) reference ps
+settled reference book ps = leaders (preferred (all (demandExceeds book) ps) (all (supplyExceeds book) ps) reference) ps
 
 -- If the highest executable quantity is 0 there is no trade and no price.
 abbrev pub tradable : List Order → List ℕ → Option ℕ
@@ -63,16 +63,26 @@ tradable-none : (book : List Order) (ps : List ℕ) → ((p : ℕ) → executabl
 tradable-none book [] h = refl
 tradable-none book (q ∷ qs) h = rw (h q)
 
+preferred-total : (x y : Bool) (reference p q : ℕ) → T (preferred x y reference p q) ⊎ T (preferred x y reference q p)
+preferred-total true y reference p q = ⊎-map (λ h. h) (λ h. omega tests) (decided (preferred true y reference p q))
+preferred-total false true reference p q = ⊎-map (λ h. h) (λ h. omega tests) (decided (preferred false true reference p q))
+preferred-total false false reference p q = ⊎-map (λ h. h) (λ h. omega tests) (decided (preferred false false reference p q))
+
+preferred-trans : (x y : Bool) (reference p q r : ℕ) → T (preferred x y reference p q) → T (preferred x y reference q r) → T (preferred x y reference p r)
+preferred-trans true y reference p q r h k = omega tests
+preferred-trans false true reference p q r h k = omega tests
+preferred-trans false false reference p q r h k = omega tests
+
 -- What is kept has no gaps: a candidate between two that are kept is kept.
-module _ (r : ℕ) (book : List Order) where
-  kept-elim : {a : ℕ} → a ∈ kept r book → (a ∈ candidates r book) × ((y : ℕ) → y ∈ candidates r book → executable book y ≤ executable book a)
-      × ((y : ℕ) → y ∈ largest (executable book) (candidates r book) → difference book a ≤ difference book y)
+module _ (reference : ℕ) (book : List Order) where
+  kept-elim : {a : ℕ} → a ∈ kept reference book → (a ∈ candidates reference book) × ((y : ℕ) → y ∈ candidates reference book → executable book y ≤ executable book a)
+      × ((y : ℕ) → y ∈ largest (executable book) (candidates reference book) → difference book a ≤ difference book y)
   kept-elim m =
-      let (m1, least) = smallest-elim (difference book) (largest (executable book) (candidates r book)) m in
-      let (m0, most) = largest-elim (executable book) (candidates r book) m1 in
+      let (m1, least) = smallest-elim (difference book) (largest (executable book) (candidates reference book)) m in
+      let (m0, most) = largest-elim (executable book) (candidates reference book) m1 in
       (m0, most, least)
 
-  pub kept-between : {a b c : ℕ} → a ∈ kept r book → b ∈ kept r book → c ∈ candidates r book → a ≤ c → c ≤ b → c ∈ kept r book
+  pub kept-between : {a b c : ℕ} → a ∈ kept reference book → b ∈ kept reference book → c ∈ candidates reference book → a ≤ c → c ≤ b → c ∈ kept reference book
   kept-between {a} {b} {c} ma mb mc ac cb =
       let (a0, a-most, a-least) = kept-elim ma in
       let (b0, b-most, b-least) = kept-elim mb in
@@ -87,76 +97,72 @@ module _ (r : ℕ) (book : List Order) where
       (omega (arith, b-least y n, le-apart (interest Buy b book) (interest Sell b book))))
 
   -- There is never a second equally near (B6).
-  pub nearest-one : {a b : ℕ} → a ∈ smallest (apart r) (kept r book) → b ∈ smallest (apart r) (kept r book) → a ≡ b
+  pub nearest-one : {a b : ℕ} → a ∈ smallest (apart reference) (kept reference book) → b ∈ smallest (apart reference) (kept reference book) → a ≡ b
   unfolding apart
   nearest-one {a} {b} ma mb =
-      let (a0, a-near) = smallest-elim (apart r) (kept r book) ma in
-      let (b0, b-near) = smallest-elim (apart r) (kept r book) mb in
-      let rc : r ∈ candidates r book = List·Memᴰ·head refl in
+      let (a0, a-near) = smallest-elim (apart reference) (kept reference book) ma in
+      let (b0, b-near) = smallest-elim (apart reference) (kept reference book) mb in
+      let rc : reference ∈ candidates reference book = List·Memᴰ·head refl in
       ⊎-elim
       (λ h. ⊎-elim
       (λ k. omega (tests, a-near b b0, b-near a a0))
-      (λ k. let m = kept-between a0 b0 rc (omega tests) (omega tests) in omega (tests, a-near r m, b-near r m))
-      (decided (leb b r)))
+      (λ k. let m = kept-between a0 b0 rc (omega tests) (omega tests) in omega (tests, a-near reference m, b-near reference m))
+      (decided (leb b reference)))
       (λ h. ⊎-elim
-      (λ k. let m = kept-between b0 a0 rc (omega tests) (omega tests) in omega (tests, a-near r m, b-near r m))
+      (λ k. let m = kept-between b0 a0 rc (omega tests) (omega tests) in omega (tests, a-near reference m, b-near reference m))
       (λ k. omega (tests, a-near b b0, b-near a a0))
-      (decided (leb b r)))
-      (decided (leb a r))
+      (decided (leb b reference)))
+      (decided (leb a reference))
 
   -- the chain leaves one price ..
-  pub settled-one : {a b : ℕ} → a ∈ settled r book (kept r book) → b ∈ settled r book (kept r book) → a ≡ b
-  settled-one {a} {b} = go (all (demandExceeds book) (kept r book)) (all (supplyExceeds book) (kept r book))
+  pub settled-one : {a b : ℕ} → a ∈ settled reference book (kept reference book) → b ∈ settled reference book (kept reference book) → a ≡ b
+  settled-one {a} {b} = go (all (demandExceeds book) (kept reference book)) (all (supplyExceeds book) (kept reference book))
     where
-      go : (x y : Bool) → a ∈ taken x y r (kept r book) → b ∈ taken x y r (kept r book) → a ≡ b
+      go : (x y : Bool) → a ∈ leaders (preferred x y reference) (kept reference book) → b ∈ leaders (preferred x y reference) (kept reference book) → a ≡ b
       go true y m n =
-          let (a0, a-most) = largest-elim (λ p. p) (kept r book) m in
-          let (b0, b-most) = largest-elim (λ p. p) (kept r book) n in
-          omega (arith, a-most b b0, b-most a a0)
+          let (a0, a-first) = leaders-elim (preferred true y reference) (kept reference book) m in
+          let (b0, b-first) = leaders-elim (preferred true y reference) (kept reference book) n in
+          omega (tests, a-first b b0, b-first a a0)
       go false true m n =
-          let (a0, a-least) = smallest-elim (λ p. p) (kept r book) m in
-          let (b0, b-least) = smallest-elim (λ p. p) (kept r book) n in
-          omega (arith, a-least b b0, b-least a a0)
+          let (a0, a-first) = leaders-elim (preferred false true reference) (kept reference book) m in
+          let (b0, b-first) = leaders-elim (preferred false true reference) (kept reference book) n in
+          omega (tests, a-first b b0, b-first a a0)
       go false false m n = nearest-one m n
 
   -- .. of those that are kept
-  settled-kept : {a : ℕ} → a ∈ settled r book (kept r book) → a ∈ kept r book
-  settled-kept {a} = go (all (demandExceeds book) (kept r book)) (all (supplyExceeds book) (kept r book))
-    where
-      go : (x y : Bool) → a ∈ taken x y r (kept r book) → a ∈ kept r book
-      go true y m = largest-elim (λ p. p) (kept r book) m .0
-      go false true m = smallest-elim (λ p. p) (kept r book) m .0
-      go false false m = smallest-elim (apart r) (kept r book) m .0
+  settled-kept : {a : ℕ} → a ∈ settled reference book (kept reference book) → a ∈ kept reference book
+  settled-kept m = leaders-elim (preferred (all (demandExceeds book) (kept reference book)) (all (supplyExceeds book) (kept reference book)) reference) (kept reference book) m .0
 
-  settled-some : (c : ℕ) × (c ∈ settled r book (kept r book))
+  settled-some : (c : ℕ) × (c ∈ settled reference book (kept reference book))
   settled-some =
-      let (c, m) = largest-some (executable book) (candidates r book) (List·Memᴰ·head refl) in
-      let (d, n) = smallest-some (difference book) (largest (executable book) (candidates r book)) m in
-      go (all (demandExceeds book) (kept r book)) (all (supplyExceeds book) (kept r book)) n
+      let (c, m) = largest-some (executable book) (candidates reference book) (List·Memᴰ·head refl) in
+      let (d, n) = smallest-some (difference book) (largest (executable book) (candidates reference book)) m in
+      leaders-found (preferred demandAtAll supplyAtAll reference) (preferred-total demandAtAll supplyAtAll reference) (preferred-trans demandAtAll supplyAtAll reference) (kept reference book) n
     where
-      go : {d : ℕ} (x y : Bool) → d ∈ kept r book → (c : ℕ) × (c ∈ taken x y r (kept r book))
-      go true y n = largest-some (λ p. p) (kept r book) n
-      go false true n = smallest-some (λ p. p) (kept r book) n
-      go false false n = smallest-some (apart r) (kept r book) n
+      demandAtAll : Bool
+      demandAtAll = all (demandExceeds book) (kept reference book)
+
+      supplyAtAll : Bool
+      supplyAtAll = all (supplyExceeds book) (kept reference book)
 
   -- it executes as much as any price at all, listed or not
-  settled-best : {a : ℕ} → a ∈ settled r book (kept r book) → (p : ℕ) → executable book p ≤ executable book a
+  settled-best : {a : ℕ} → a ∈ settled reference book (kept reference book) → (p : ℕ) → executable book p ≤ executable book a
   settled-best m p =
-      let (c, listed, good) = candidate-as-good r book p in
+      let (c, listed, good) = candidate-as-good reference book p in
       let (m0, most, least) = kept-elim (settled-kept m) in
       omega (arith, most c listed)
 
   -- the price is the one that the chain leaves, if anything can be executed there
-  pub price-some : (p : ℕ) → (auctionPrice r book ≡ some p) ↔ ((p ∈ settled r book (kept r book)) × (0 < executable book p))
+  pub price-some : (p : ℕ) → (auctionPrice reference book ≡ some p) ↔ ((p ∈ settled reference book (kept reference book)) × (0 < executable book p))
   unfolding auctionPrice
-  price-some p = (tradable-elim book (settled r book (kept r book)) p, λ (m, h). tradable-intro book (settled r book (kept r book)) p m h (λ a n. settled-one m n))
+  price-some p = (tradable-elim book (settled reference book (kept reference book)) p, λ (m, h). tradable-intro book (settled reference book (kept reference book)) p m h (λ a n. settled-one m n))
 
   -- there is none exactly where nothing can be executed at any price
-  pub price-none : (auctionPrice r book ≡ none) ↔ ((p : ℕ) → executable book p ≡ 0)
+  pub price-none : (auctionPrice reference book ≡ none) ↔ ((p : ℕ) → executable book p ≡ 0)
   unfolding auctionPrice
-  price-none = (nothing, tradable-none book (settled r book (kept r book)))
+  price-none = (nothing, tradable-none book (settled reference book (kept reference book)))
     where
-      nothing : auctionPrice r book ≡ none → (p : ℕ) → executable book p ≡ 0
+      nothing : auctionPrice reference book ≡ none → (p : ℕ) → executable book p ≡ 0
       nothing e p =
           let (c, m) = settled-some in
           ⊎-elim
@@ -165,23 +171,23 @@ module _ (r : ℕ) (book : List Order) where
           (decided (ltb 0 (executable book c)))
 
   -- the price is a candidate
-  pub price-candidate : (p : ℕ) → auctionPrice r book ≡ some p → p ∈ candidates r book
+  pub price-candidate : (p : ℕ) → auctionPrice reference book ≡ some p → p ∈ candidates reference book
   price-candidate p e = kept-elim (settled-kept (price-some p .0 e .0)) .0
 
   -- no price at all would execute more
-  pub price-best : (p : ℕ) → auctionPrice r book ≡ some p → (q : ℕ) → executable book q ≤ executable book p
+  pub price-best : (p : ℕ) → auctionPrice reference book ≡ some p → (q : ℕ) → executable book q ≤ executable book p
   price-best p e q = settled-best (price-some p .0 e .0) q
 
   -- what is executed at the price is the highest executable quantity ..
-  pub price-most : (p : ℕ) → auctionPrice r book ≡ some p → executable book p ≡ mostExecutable r book
+  pub price-most : (p : ℕ) → auctionPrice reference book ≡ some p → executable book p ≡ mostExecutable reference book
   unfolding mostExecutable
   price-most p e =
-      let (c, listed, same) = highest-at (executable book) r (limits book) in
+      let (c, listed, same) = highest-at (executable book) reference (limits book) in
       omega (arith, price-best p e c, le-highest (executable book) (price-candidate p e))
 
   -- .. which is 0 where there is no price
-  pub no-price-most : auctionPrice r book ≡ none → mostExecutable r book ≡ 0
+  pub no-price-most : auctionPrice reference book ≡ none → mostExecutable reference book ≡ 0
   unfolding mostExecutable
   no-price-most e =
-      let (c, listed, same) = highest-at (executable book) r (limits book) in
+      let (c, listed, same) = highest-at (executable book) reference (limits book) in
       omega (arith, price-none .0 e c)
