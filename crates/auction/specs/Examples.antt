@@ -22,37 +22,37 @@ unfolding apart interest mostExecutable auctionPrice ranked fills tradesOf trade
 computing = tt
 
 -- threshold 150, reference 100,000
-abbrev held : Auction → Bool → List Order → Outcome
-held a delayed book = outcome a delayed 150 100_000 book
+abbrev outcomeOn : Auction → Bool → List Order → Outcome
+outcomeOn a delayed book = outcome a delayed 150 100_000 book
 
 -- an unlimited order that stays unfilled prevents an opening, and not a closing
-prevents : held Opening false (buyAny 1 50 ∷ sell 2 30 100_200 ∷ []) ≡ NonOpening
+prevents : outcomeOn Opening false (buyAny 1 50 ∷ sell 2 30 100_200 ∷ []) ≡ NonOpening
 unfolding computing
 prevents = refl
 
-closes : held Closing false (buyAny 1 50 ∷ sell 2 30 100_200 ∷ []) ≡ Traded 100_200 30
+closes : outcomeOn Closing false (buyAny 1 50 ∷ sell 2 30 100_200 ∷ []) ≡ Traded 100_200 30
 unfolding computing
 closes = refl
 
 -- a price that reaches the threshold is delayed once; one step nearer it is not
-delayed-once : held Opening false (buy 1 10 101_500 ∷ sell 2 10 101_500 ∷ []) ≡ Delayed 101_500 10
+delayed-once : outcomeOn Opening false (buy 1 10 101_500 ∷ sell 2 10 101_500 ∷ []) ≡ Delayed 101_500 10
 unfolding computing
 delayed-once = refl
 
-then-opened : held Opening true (buy 1 10 101_500 ∷ sell 2 10 101_500 ∷ []) ≡ Traded 101_500 10
+then-opened : outcomeOn Opening true (buy 1 10 101_500 ∷ sell 2 10 101_500 ∷ []) ≡ Traded 101_500 10
 unfolding computing
 then-opened = refl
 
-not-delayed : held Opening false (buy 1 10 101_400 ∷ sell 2 10 101_400 ∷ []) ≡ Traded 101_400 10
+not-delayed : outcomeOn Opening false (buy 1 10 101_400 ∷ sell 2 10 101_400 ∷ []) ≡ Traded 101_400 10
 unfolding computing
 not-delayed = refl
 
 -- Non Opening answers before Delayed Opening
-prevents-first : held Opening false (buyAny 1 50 ∷ sell 2 30 101_500 ∷ []) ≡ NonOpening
+prevents-first : outcomeOn Opening false (buyAny 1 50 ∷ sell 2 30 101_500 ∷ []) ≡ NonOpening
 unfolding computing
 prevents-first = refl
 
-nothing : held Opening false [] ≡ NoTrade
+nothing : outcomeOn Opening false [] ≡ NoTrade
 unfolding computing
 nothing = refl
 
@@ -63,7 +63,7 @@ workedBook = buy 1 50 100_200 ∷ buy 2 50 100_400 ∷ buy 3 50 100_200 ∷ sell
 abbrev trade : ℕ → ℕ → ℕ → Trade
 trade b s q = record { buy = b; sell = s; quantity = q }
 
-worked-outcome : held Opening false workedBook ≡ Traded 100_200 80
+worked-outcome : outcomeOn Opening false workedBook ≡ Traded 100_200 80
 unfolding computing
 worked-outcome = refl
 

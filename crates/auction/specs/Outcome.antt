@@ -83,12 +83,12 @@ quantityAnswered (Delayed price quantity) = quantity
 abbrev pub countAnswered : Outcome → List Order → ℕ
 countAnswered o book = length (trades o book)
 
--- an auction that is not held back: outcome 1 or 2
-abbrev pub isHeld : Outcome → Bool
-isHeld (Traded price quantity) = true
-isHeld NoTrade = true
-isHeld NonOpening = false
-isHeld (Delayed price quantity) = false
+-- an auction takes place where nothing holds it back: outcome 1 or 2
+abbrev pub takesPlace : Outcome → Bool
+takesPlace (Traded price quantity) = true
+takesPlace NoTrade = true
+takesPlace NonOpening = false
+takesPlace (Delayed price quantity) = false
 
 -- What an outcome says of the price.
 module _ (a : Auction) (delayed : Bool) (threshold reference : ℕ) (book : List Order) where
@@ -148,10 +148,10 @@ module _ (a : Auction) (delayed : Bool) (threshold reference : ℕ) (book : List
       from false h = absurd h
 
 -- a closing has outcome 1 or 2 only
-pub closing-held : (delayed : Bool) (threshold reference : ℕ) (book : List Order) → T (isHeld (outcome Closing delayed threshold reference book))
+pub closing-takes-place : (delayed : Bool) (threshold reference : ℕ) (book : List Order) → T (takesPlace (outcome Closing delayed threshold reference book))
 unfolding outcome
-closing-held delayed threshold reference book = go (auctionPrice reference book)
+closing-takes-place delayed threshold reference book = go (auctionPrice reference book)
   where
-    go : (found : Option ℕ) → T (isHeld (priced Closing delayed threshold reference book found))
+    go : (found : Option ℕ) → T (takesPlace (priced Closing delayed threshold reference book found))
     go none = tt
     go (some p) = tt

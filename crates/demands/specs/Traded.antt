@@ -2,7 +2,7 @@
 use Prim.Native.Nat.{ℕ, _≤_, _<_}
 use mathlib.Core.Bool.{Bool}
 use mathlib.Core.Logic.{_↔_}
-use mathlib.Core.Path.{_≡_, refl, sym}
+use mathlib.Core.Path.{_≡_, refl, sym, _∙_}
 use mathlib.Core.List.{List, map}
 use native.Mathlib.Omega.{arith}
 use lib.Dec.{T}
@@ -14,12 +14,13 @@ use Rattle.queue.specs.Part.{takingPart, takingPart-distinct, takingPart-elim, 
 use Rattle.queue.specs.Distinct.{Distinct}
 use Rattle.queue.specs.Rank.{ahead, onSide}
 use Rattle.price.specs.Interest.{interest, executable}
-use Rattle.price.specs.Chain.{price-best, price-none}
+use Rattle.price.specs.Candidates.{mostExecutable}
+use Rattle.price.specs.Chain.{price-best, price-none, price-most, no-price-most}
 use Rattle.auction.specs.declared.{Trade.Trade, Outcome.Outcome, Outcome.the-variants.Traded, Outcome.the-variants.NoTrade, Outcome.the-variants.NonOpening, Outcome.the-variants.Delayed}
 use Rattle.auction.specs.Trades.{traded, volume, TradeList, volume-le-executable}
 use Rattle.auction.specs.Pairing.{amount}
 use Rattle.auction.specs.Fills.{fills, tradesOf, trades-none, fills-amount, trades-volume, trades-possible, trades-in-order, trades-positive, traded-side, trades-count}
-use Rattle.auction.specs.Outcome.{outcome, trades, priceAnswered, quantityAnswered, countAnswered, isHeld, outcome-traded, outcome-no-trade, outcome-prevented, closing-held}
+use Rattle.auction.specs.Outcome.{outcome, trades, priceAnswered, quantityAnswered, countAnswered, takesPlace, outcome-traded, outcome-no-trade, outcome-prevented, closing-takes-place}
 use Rattle.auction.specs.After.{remaining}
 use Rattle.auction.specs.Left.{nothing-left}
 use Rattle.auction.specs.NonOpening.{Fillable, non-opening-exactly}
@@ -45,36 +46,41 @@ module _ (a : Auction) (delayed : Bool) (threshold reference : ℕ) (resting : L
   abbrev pub done : List Trade
   done = trades result book
 
-  -- of an auction that is not held back: at its price both sides have the quantity, and no price executes more
-  record Held (o : Outcome) : Type 0 where
+  -- of an auction that takes place: at its price both sides have the quantity, and no price executes more
+  record TookPlace (o : Outcome) : Type 0 where
     enough : (s : Side) → quantityAnswered o ≤ interest s (priceAnswered o) book
     best : (q : ℕ) → executable book q ≤ quantityAnswered o
+    most : quantityAnswered o ≡ mostExecutable reference book
     exact : trades o book ≡ tradesOf (quantityAnswered o) book
 
-  held : T (isHeld result) → Held result
-  held h = go result refl h
+  took-place : T (takesPlace result) → TookPlace result
+  took-place h = go result refl h
     where
       smaller : (p q : ℕ) → q ≡ executable book p → (s : Side) → q ≤ interest s p book
       smaller p q i Buy = omega arith
       smaller p q i Sell = omega arith
 
-      go : (o : Outcome) → result ≡ o → T (isHeld o) → Held o
+      go : (o : Outcome) → result ≡ o → T (takesPlace o) → TookPlace o
       go (Traded p q) e h =
           let (found, i) = outcome-traded a delayed threshold reference book p q e in
-          record { enough = smaller p q i; best = λ r. omega (arith, price-best reference book p found r); exact = refl }
+          record { enough = smaller p q i; best = λ r. omega (arith, price-best reference book p found r); most = i ∙ price-most reference book p found; exact = refl }
       go NoTrade e h =
-          let none = price-none reference book .0 (outcome-no-trade a delayed threshold reference book e) in
-          record { enough = λ s. omega arith; best = λ r. omega (arith, none r); exact = sym (trades-none book) }
+          let found = outcome-no-trade a delayed threshold reference book e in
+          record { enough = λ s. omega arith; best = λ r. omega (arith, price-none reference book .0 found r); most = sym (no-price-most reference book found); exact = sym (trades-none book) }
       go NonOpening e h = absurd h
       go (Delayed p q) e h = absurd h
 
-  module _ (ranged : Ranged resting) (h : T (isHeld result)) where
+  module _ (ranged : Ranged resting) (h : T (takesPlace result)) where
     distinct : Distinct book
     distinct = takingPart-distinct a resting (ranged .distinct)
 
     -- C1. No trade list at any price moves more than the auction's quantity.
     pub no-list-moves-more : (p : ℕ) (others : List Trade) → TradeList p book others → volume others ≤ quantity
-    no-list-moves-more p others possible = omega (arith, volume-le-executable p book others possible, held h .best p)
+    no-list-moves-more p others possible = omega (arith, volume-le-executable p book others possible, took-place h .best p)
+
+    -- .. and that is the highest executable quantity
+    pub executes-the-most : quantity ≡ mostExecutable reference book
+    executes-the-most = took-place h .most
 
     -- C2. Bought equals sold: both sides' fills sum to the quantity, what the orders of each side trade does, and so do the trades.
     pub record BoughtIsSold : Type 0 where
@@ -84,7 +90,7 @@ module _ (a : Auction) (delayed : Bool) (threshold reference : ℕ) (resting : L
 
     pub bought-is-sold : BoughtIsSold
     bought-is-sold =
-        let g = held h in
+        let g = took-place h in
         record {
           filled = fills-amount (priceAnswered result) quantity book distinct (g .enough);
           given = λ s. rw (g .exact) (traded-side (priceAnswered result) quantity book distinct (g .enough) s);
@@ -94,11 +100,11 @@ module _ (a : Auction) (delayed : Bool) (threshold reference : ℕ) (resting : L
     -- C3. If an order gets anything, every better ranked order of its side that takes part is filled.
     pub nobody-passed-over : (s : Side) (x y : Order) → x ∈ book → y ∈ book → T (onSide s x) → T (onSide s y) → T (ahead s x y) → 0 < traded s (y .number) done
         → traded s (x .number) done ≡ x .left
-    nobody-passed-over s x y mx my sx sy k = let g = held h in rw (g .exact) (trades-in-order (priceAnswered result) quantity book distinct (g .enough) s x y mx my sx sy k)
+    nobody-passed-over s x y mx my sx sy k = let g = took-place h in rw (g .exact) (trades-in-order (priceAnswered result) quantity book distinct (g .enough) s x y mx my sx sy k)
 
     -- C4. Nothing left: among what is left of those taking part, the executable quantity at every price is 0.
     pub nothing-left-could-trade : (q : ℕ) → executable (map (remaining done) book) q ≡ 0
-    nothing-left-could-trade q = let g = held h in rw (g .exact) (nothing-left (priceAnswered result) quantity book distinct (g .enough) (g .best) q)
+    nothing-left-could-trade q = let g = took-place h in rw (g .exact) (nothing-left (priceAnswered result) quantity book distinct (g .enough) (g .best) q)
 
     -- C6, of the trades: at most 511 and as many as answered, each of a buy and a sell taking part that accept the price, no order beyond its
     -- quantity, no trade of nothing, summing to the quantity.
@@ -111,7 +117,7 @@ module _ (a : Auction) (delayed : Bool) (threshold reference : ℕ) (resting : L
 
     pub list-of-trades : ListOfTrades
     list-of-trades =
-        let g = held h in
+        let g = took-place h in
         record {
           counted-as-answered = refl;
           at-most = rw (g .exact) (omega (arith, trades-count quantity book, takingPart-length a resting, ranged .few));
@@ -129,5 +135,5 @@ non-opening-when-unfillable delayed threshold reference resting d =
     ((λ e. exactly .0 (prevents .0 e)), (λ no. prevents .1 (exactly .1 no)))
 
 -- .. and a closing is never held back
-pub closing-is-held : (delayed : Bool) (threshold reference : ℕ) (resting : List Order) → T (isHeld (result Closing delayed threshold reference resting))
-closing-is-held delayed threshold reference resting = closing-held delayed threshold reference (takingPart Closing resting)
+pub every-closing-takes-place : (delayed : Bool) (threshold reference : ℕ) (resting : List Order) → T (takesPlace (result Closing delayed threshold reference resting))
+every-closing-takes-place delayed threshold reference resting = closing-takes-place delayed threshold reference (takingPart Closing resting)

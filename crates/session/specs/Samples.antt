@@ -38,15 +38,15 @@ enter s [] = s
 enter s (e ∷ es) = enter (entered s e .session) es
 
 -- an auction (1 opening, 2 closing): its four numbers, and the session after it
-abbrev pub held : ℕ → Session → AuctionAnswer
-held which s = auctioned s which (replicate tradeListLength 0) .returned .result
+abbrev pub answered : ℕ → Session → AuctionAnswer
+answered which s = auctioned s which (replicate tradeListLength 0) .returned .result
 
 abbrev pub after : ℕ → Session → Session
 after which s = auctioned s which (replicate tradeListLength 0) .returned .session
 
 -- the opening of a book of day orders, after a start with a reference price
 abbrev pub openingOf : ℕ → List Entry → AuctionAnswer
-openingOf reference es = held 1 (enter (startedAt reference) es)
+openingOf reference es = answered 1 (enter (startedAt reference) es)
 
 -- outcome, price, quantity, count of trades
 abbrev pub numbers : ℕ → ℕ → ℕ → ℕ → AuctionAnswer

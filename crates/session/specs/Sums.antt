@@ -9,7 +9,7 @@ use Rattle.session.specs.Entry.{freshSession, entered, deleted}
 use Rattle.session.specs.Auctions.{auctioned, theoretical}
 use Rattle.session.specs.Queues.{queued}
 use Rattle.session.specs.Computing.{computing}
-use Rattle.session.specs.Samples.{startedAt, entry, buy, sell, enter, held, after, openingOf, numbers}
+use Rattle.session.specs.Samples.{startedAt, entry, buy, sell, enter, answered, after, openingOf, numbers}
 
 -- empty book: outcome 2
 empty-book : openingOf 100_000 [] ≡ numbers 2 0 0 0
@@ -21,11 +21,11 @@ empty-book = refl
 abbrev atClose : Session
 atClose = enter (startedAt 100_000) (entry 1 2 50 Unlimited ∷ sell 30 100_200 ∷ [])
 
-opens-without : held 1 atClose ≡ numbers 2 0 0 0
+opens-without : answered 1 atClose ≡ numbers 2 0 0 0
 unfolding computing
 opens-without = refl
 
-closes-with : held 2 (after 1 atClose) ≡ numbers 1 100_200 30 1
+closes-with : answered 2 (after 1 atClose) ≡ numbers 1 100_200 30 1
 unfolding computing
 closes-with = refl
 
