@@ -1,7 +1,7 @@
 -- Computing: every definition that stays shut by itself, so that a worked example can say `unfolding computing` and hold by `refl`.
 use Rattle.lists.specs.Sums.{apart}
 use Rattle.terms.specs.Orders.{orderOf}
-use Rattle.book.specs.Places.{bit, least, total}
+use Rattle.book.specs.Places.{bit, least, total, marked, unmarked}
 use Rattle.book.specs.Columns.{stored, cleared}
 use Rattle.book.specs.Resting.{restingTo, findFrom, changedTo}
 use Rattle.queue.specs.Part.{takingPart}
@@ -20,5 +20,5 @@ use Rattle.session.specs.Auctions.{outcomeOf, auctioned, theoretical}
 use Rattle.session.specs.Queues.{queued, filledFront}
 
 unfoldable pub computing : Unit {0}
-unfolding apart orderOf bit least total stored cleared restingTo findFrom changedTo takingPart ranked front interest mostExecutable auctionPrice traded fills tradesOf nonOpening outcome restOf firstHit started entered deleted outcomeOf auctioned theoretical queued filledFront
+unfolding apart orderOf bit least total marked unmarked stored cleared restingTo findFrom changedTo takingPart ranked front interest mostExecutable auctionPrice traded fills tradesOf nonOpening outcome restOf firstHit started entered deleted outcomeOf auctioned theoretical queued filledFront
 computing = tt
