@@ -2,6 +2,7 @@
 use Prim.Native.Nat.{ℕ}
 use mathlib.Core.Bool.{cond}
 use lib.Dec.{eqb}
+use mathlib.Core.List.{List}
 use lib.ListN.{getD, set, replicate}
 use Rattle.terms.specs.Bounds.{places}
 use Rattle.terms.specs.Orders.{sideNumber, validityNumber, limitNumber, limitFrom}
@@ -16,16 +17,53 @@ sideFrom x = cond (eqb x 1) Buy Sell
 abbrev pub validityFrom : ℕ → Validity
 validityFrom x = cond (eqb x 1) AtOpening (cond (eqb x 2) AtClose (cond (eqb x 3) Day LaterDay))
 
--- the order at a place
-abbrev pub orderAt : Book → ℕ → Order
-orderAt b place = record {
+-- what the columns hold at a place
+pub record Raw : Type 0 where
+  pub number : ℕ
+  pub member : ℕ
+  pub side : ℕ
+  pub validity : ℕ
+  pub left : ℕ
+  pub limit : ℕ
+
+abbrev pub rawAt : Book → ℕ → Raw
+rawAt b place = record {
   number = getD (b .number) place 0;
   member = getD (b .member) place 0;
-  side = sideFrom (getD (b .side) place 0);
-  validity = validityFrom (getD (b .validity) place 0);
+  side = getD (b .side) place 0;
+  validity = getD (b .validity) place 0;
   left = getD (b .left) place 0;
-  limit = limitFrom (getD (b .limit) place 0);
+  limit = getD (b .limit) place 0;
 }
+
+-- an order as the columns hold it, and back
+abbrev pub rawOf : Order → Raw
+rawOf o = record {
+  number = o .number;
+  member = o .member;
+  side = sideNumber (o .side);
+  validity = validityNumber (o .validity);
+  left = o .left;
+  limit = limitNumber (o .limit);
+}
+
+abbrev pub orderFrom : Raw → Order
+orderFrom r = record {
+  number = r .number;
+  member = r .member;
+  side = sideFrom (r .side);
+  validity = validityFrom (r .validity);
+  left = r .left;
+  limit = limitFrom (r .limit);
+}
+
+-- the order at a place
+abbrev pub orderAt : Book → ℕ → Order
+orderAt b place = orderFrom (rawAt b place)
+
+-- the empty values
+abbrev pub emptyRaw : Raw
+emptyRaw = record { number = 0; member = 0; side = 0; validity = 0; left = 0; limit = 0 }
 
 -- every place free, and the empty value 0 in every column
 abbrev pub emptyBook : Book
@@ -39,26 +77,22 @@ emptyBook = record {
   limit = replicate places 0;
 }
 
+-- the book with other words, and other values at a place
+abbrev pub written : Book → List ℕ → ℕ → Raw → Book
+written b words place r = record {
+  taken = words;
+  number = set (b .number) place (r .number);
+  member = set (b .member) place (r .member);
+  side = set (b .side) place (r .side);
+  validity = set (b .validity) place (r .validity);
+  left = set (b .left) place (r .left);
+  limit = set (b .limit) place (r .limit);
+}
+
 -- the book with an order at a place
 unfoldable pub stored : Book → ℕ → Order → Book
-stored b place o = record {
-  taken = marked (b .taken) place;
-  number = set (b .number) place (o .number);
-  member = set (b .member) place (o .member);
-  side = set (b .side) place (sideNumber (o .side));
-  validity = set (b .validity) place (validityNumber (o .validity));
-  left = set (b .left) place (o .left);
-  limit = set (b .limit) place (limitNumber (o .limit));
-}
+stored b place o = written b (marked (b .taken) place) place (rawOf o)
 
 -- the book with a place free, written back to the empty values
 unfoldable pub cleared : Book → ℕ → Book
-cleared b place = record {
-  taken = unmarked (b .taken) place;
-  number = set (b .number) place 0;
-  member = set (b .member) place 0;
-  side = set (b .side) place 0;
-  validity = set (b .validity) place 0;
-  left = set (b .left) place 0;
-  limit = set (b .limit) place 0;
-}
+cleared b place = written b (unmarked (b .taken) place) place emptyRaw

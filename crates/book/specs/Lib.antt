@@ -2,3 +2,7 @@
 pub mod Places
 pub mod Columns
 pub mod Resting
+pub mod Words
+pub mod Changes
+pub mod Sound
+pub mod Rests

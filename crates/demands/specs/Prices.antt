@@ -7,12 +7,13 @@ use lib.Dec.{T}
 use Rattle.lists.specs.Sums.{_∈_, apart}
 use Rattle.lists.specs.Choice.{smallest}
 use Rattle.terms.specs.Kinds.{isReference}
+use Rattle.terms.specs.Orders.{isLegal}
 use Rattle.terms.specs.declared.orders.{Auction.Auction, Order.Order}
 use Rattle.queue.specs.Part.{takingPart, takingPart-elim}
 use Rattle.price.specs.Interest.{executable}
 use Rattle.price.specs.Candidates.{mostExecutable, candidates-suffice}
 use Rattle.price.specs.Chain.{kept, auctionPrice, nearest-one}
-use Rattle.price.specs.Legal.{isLegal, price-legal}
+use Rattle.price.specs.Legal.{price-legal}
 
 -- B5.
 pub no-price-executes-more : (a : Auction) (reference : ℕ) (resting : List Order) (p : ℕ) → executable (takingPart a resting) p ≤ mostExecutable reference (takingPart a resting)

@@ -17,6 +17,13 @@ pub passes : (b : Bool) → T b → b ≡ true
 passes true h = refl
 passes false h = absurd h
 
+-- tests that pass together are one
+pub same-test : (a b : Bool) → (T a → T b) → (T b → T a) → a ≡ b
+same-test true true to back = refl
+same-test true false to back = absurd (to tt)
+same-test false true to back = absurd (back tt)
+same-test false false to back = refl
+
 pub and-both : (a b : Bool) → T (a && b) → T a × T b
 and-both true b h = (tt, h)
 and-both false b h = absurd h

@@ -1,20 +1,15 @@
 -- A legal price: 01 "The price", "the price found is always a multiple of the step" (B7).
 use Prim.Native.Nat.{ℕ}
-use mathlib.Core.Bool.{Bool, true}
 use mathlib.Core.Option.{some}
 use mathlib.Core.Path.{_≡_, refl}
 use mathlib.Core.List.{List, [], _∷_, List·Memᴰ·head, List·Memᴰ·tail, List·Memᴰ·not-nil}
 use lib.Dec.{T}
 use Rattle.lists.specs.Sums.{_∈_}
 use Rattle.terms.specs.Kinds.{isReference}
+use Rattle.terms.specs.Orders.{isLegal}
 use Rattle.terms.specs.declared.orders.{Limit.Limit, Limit.the-variants.Unlimited, Limit.the-variants.At, Order.Order}
 use Rattle.price.specs.Candidates.{addLimit, limits, candidates}
 use Rattle.price.specs.Chain.{auctionPrice, price-candidate}
-
--- a limit is a price and a multiple of the step, or unlimited
-abbrev pub isLegal : ℕ → Limit → Bool
-isLegal step Unlimited = true
-isLegal step (At p) = isReference step p
 
 limits-all : (P : ℕ → Type 0) (ask : Limit → Type 0) → ((p : ℕ) → ask (At p) → P p) → (book : List Order) → ((o : Order) → o ∈ book → ask (o .limit)) → (p : ℕ) → p ∈ limits book → P p
 limits-all P ask told [] h p m = absurd (List·Memᴰ·not-nil m)

@@ -9,3 +9,5 @@ pub mod Computing
 pub mod Samples
 pub mod Table
 pub mod Sums
+pub mod Exactly
+pub mod Sound

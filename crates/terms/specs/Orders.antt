@@ -3,7 +3,7 @@ use Prim.Native.Nat.{ℕ, zero, suc}
 use lib.Dec.{eqb}
 use mathlib.Core.Bool.{Bool, true, false, _&&_, cond}
 use mathlib.Core.Path.{_≡_}
-use Rattle.terms.specs.Kinds.{within, isPrice, isQuantity, isMember}
+use Rattle.terms.specs.Kinds.{within, isPrice, isQuantity, isMember, isReference}
 use Rattle.terms.specs.declared.orders.Side.{Side}
 use Rattle.terms.specs.declared.orders.Side.the-variants.{Buy, Sell}
 use Rattle.terms.specs.declared.orders.Validity.{Validity}
@@ -57,6 +57,11 @@ auctionOf x = cond (eqb x 1) (AuctionMade.Good Opening) (cond (eqb x 2) (Auction
 abbrev pub isLimit : Limit → Bool
 isLimit Unlimited = true
 isLimit (At p) = isPrice p
+
+-- .. and, for a step, a multiple of it
+abbrev pub isLegal : ℕ → Limit → Bool
+isLegal step Unlimited = true
+isLegal step (At p) = isReference step p
 
 -- .. as a number: 0 means unlimited (01 "Session file")
 abbrev pub limitNumber : Limit → ℕ

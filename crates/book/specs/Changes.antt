@@ -1,0 +1,121 @@
+-- Changes: what writing a place does to it, and to every other.
+use Prim.Native.Nat.{ℕ, zero, suc, _/_, _<_}
+use mathlib.Core.Bool.{true, false}
+use mathlib.Core.Logic.{_≢_}
+use mathlib.Core.Path.{_≡_, refl, ap, _∙_}
+use mathlib.Core.List.{List}
+use native.Mathlib.Omega.{arith}
+use lib.Dec.{T}
+use lib.ListN.{length, getD, set, length-set}
+use lib.Seq.{getD-set-same, getD-set-other}
+use Rattle.terms.specs.Bounds.{places}
+use Rattle.terms.specs.Orders.{sideNumber, validityNumber, limitNumber, limitFrom, isLimit}
+use Rattle.terms.specs.declared.orders.{Side.Side, Side.the-variants.Buy, Side.the-variants.Sell, Validity.Validity, Validity.the-variants.AtOpening, Validity.the-variants.AtClose, Validity.the-variants.Day, Validity.the-variants.LaterDay, Limit.Limit, Limit.the-variants.Unlimited, Limit.the-variants.At, Order.Order}
+use Rattle.book.specs.declared.Book.{Book}
+use Rattle.book.specs.Places.{isTaken, marked, unmarked}
+use Rattle.book.specs.Words.{marked-taken, marked-elsewhere, unmarked-free, unmarked-elsewhere, marked-length, unmarked-length}
+use Rattle.book.specs.Columns.{sideFrom, validityFrom, Raw, rawAt, rawOf, orderFrom, orderAt, emptyRaw, written, stored, cleared}
+
+-- eight words, and columns of 512
+pub record Sized (b : Book) : Type 0 where
+  pub taken : length (b .taken) ≡ 8
+  pub number : length (b .number) ≡ places
+  pub member : length (b .member) ≡ places
+  pub side : length (b .side) ≡ places
+  pub validity : length (b .validity) ≡ places
+  pub left : length (b .left) ≡ places
+  pub limit : length (b .limit) ≡ places
+
+-- an order comes back from the columns as it was put there
+side-back : (s : Side) → sideFrom (sideNumber s) ≡ s
+side-back Buy = refl
+side-back Sell = refl
+
+validity-back : (v : Validity) → validityFrom (validityNumber v) ≡ v
+validity-back AtOpening = refl
+validity-back AtClose = refl
+validity-back Day = refl
+validity-back LaterDay = refl
+
+limit-back : (w : Limit) → T (isLimit w) → limitFrom (limitNumber w) ≡ w
+limit-back Unlimited h = refl
+limit-back (At zero) h = absurd h
+limit-back (At (suc n)) h = refl
+
+pub order-back : (o : Order) → T (isLimit (o .limit)) → orderFrom (rawOf o) ≡ o
+order-back o h = rw (side-back (o .side), validity-back (o .validity), limit-back (o .limit) h)
+
+module _ (b : Book) (words : List ℕ) (place : ℕ) (r : Raw) where
+  pub written-elsewhere : (p : ℕ) → p ≢ place → rawAt (written b words place r) p ≡ rawAt b p
+  written-elsewhere p n = simp getD-set-other
+
+  pub written-here : Sized b → place < places → rawAt (written b words place r) place ≡ r
+  written-here sized h =
+      rw (
+        cell (b .number) (r .number) (sized .number),
+        cell (b .member) (r .member) (sized .member),
+        cell (b .side) (r .side) (sized .side),
+        cell (b .validity) (r .validity) (sized .validity),
+        cell (b .left) (r .left) (sized .left),
+        cell (b .limit) (r .limit) (sized .limit),
+      )
+    where
+      cell : (column : List ℕ) (x : ℕ) → length column ≡ places → getD (set column place x) place 0 ≡ x
+      cell column x e = getD-set-same column place x 0 (omega arith)
+
+  pub written-sized : Sized b → length words ≡ 8 → Sized (written b words place r)
+  written-sized sized e = record {
+    taken = e;
+    number = rw length-set (sized .number);
+    member = rw length-set (sized .member);
+    side = rw length-set (sized .side);
+    validity = rw length-set (sized .validity);
+    left = rw length-set (sized .left);
+    limit = rw length-set (sized .limit);
+  }
+
+-- another book is as this one at a place
+abbrev pub SameAt : Book → Book → ℕ → Type 0
+SameAt c b p = (isTaken (c .taken) p ≡ isTaken (b .taken) p) × (rawAt c p ≡ rawAt b p)
+
+module _ (b : Book) (sized : Sized b) (place : ℕ) (here : place < places) where
+  word-here : place / 64 < length (b .taken)
+  word-here = omega (arith, sized .taken)
+
+  -- Storing: the place is taken by the order, and all others are as before.
+  module _ (o : Order) where
+    pub stored-taken : isTaken (stored b place o .taken) place ≡ true
+    unfolding stored
+    stored-taken = marked-taken (b .taken) place word-here
+
+    pub stored-raw : rawAt (stored b place o) place ≡ rawOf o
+    unfolding stored
+    stored-raw = written-here b (marked (b .taken) place) place (rawOf o) sized here
+
+    pub stored-order : T (isLimit (o .limit)) → orderAt (stored b place o) place ≡ o
+    stored-order h = ap orderFrom stored-raw ∙ order-back o h
+
+    pub stored-elsewhere : (p : ℕ) → p ≢ place → SameAt (stored b place o) b p
+    unfolding stored
+    stored-elsewhere p n = (marked-elsewhere (b .taken) place p word-here n, written-elsewhere b (marked (b .taken) place) place (rawOf o) p n)
+
+    pub stored-sized : Sized (stored b place o)
+    unfolding stored
+    stored-sized = written-sized b (marked (b .taken) place) place (rawOf o) sized (marked-length (b .taken) place ∙ sized .taken)
+
+  -- Clearing: the place is free and empty, and all others are as before.
+  pub cleared-free : isTaken (cleared b place .taken) place ≡ false
+  unfolding cleared
+  cleared-free = unmarked-free (b .taken) place word-here
+
+  pub cleared-raw : rawAt (cleared b place) place ≡ emptyRaw
+  unfolding cleared
+  cleared-raw = written-here b (unmarked (b .taken) place) place emptyRaw sized here
+
+  pub cleared-elsewhere : (p : ℕ) → p ≢ place → SameAt (cleared b place) b p
+  unfolding cleared
+  cleared-elsewhere p n = (unmarked-elsewhere (b .taken) place p word-here n, written-elsewhere b (unmarked (b .taken) place) place emptyRaw p n)
+
+  pub cleared-sized : Sized (cleared b place)
+  unfolding cleared
+  cleared-sized = written-sized b (unmarked (b .taken) place) place emptyRaw sized (unmarked-length (b .taken) place ∙ sized .taken)

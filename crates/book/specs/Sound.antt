@@ -1,0 +1,143 @@
+-- A sound book: places and occupancy agree, free places hold the empty values, and what rests is in range.
+use Prim.Native.Nat.{ℕ, _≤_, _<_}
+use mathlib.Core.Bool.{Bool, true, false, true≢false}
+use mathlib.Core.Logic.{_≢_, _⊎_, inl, inr, ⊎-elim}
+use mathlib.Core.Path.{_≡_, refl, sym, ap, subst, _∙_}
+use native.Mathlib.Omega.{arith}
+use borrow.Author.Tests.{eqb-true, eqb-false}
+use lib.Dec.{T, eqb}
+use lib.ListN.{length-replicate, getD-replicate}
+use Rattle.lists.specs.Tests.{and-both}
+use Rattle.terms.specs.Bounds.{places}
+use Rattle.terms.specs.Kinds.{isPrice, isMultiple, isMember, isQuantity}
+use Rattle.terms.specs.Orders.{isLimit, isLegal}
+use Rattle.terms.specs.declared.orders.{Limit.Limit, Limit.the-variants.Unlimited, Limit.the-variants.At, Order.Order}
+use Rattle.book.specs.declared.Book.{Book}
+use Rattle.book.specs.Places.{isTaken}
+use Rattle.book.specs.Words.{zeros-free}
+use Rattle.book.specs.Columns.{rawAt, rawOf, orderFrom, orderAt, emptyRaw, emptyBook, stored, cleared}
+use Rattle.book.specs.Changes.{Sized, SameAt, stored-taken, stored-raw, stored-order, stored-elsewhere, stored-sized, cleared-free, cleared-raw, cleared-elsewhere, cleared-sized}
+
+-- an order that may rest: its number among those given, its other fields in range, its limit a multiple of the step
+pub record SoundOrder (step given : ℕ) (o : Order) : Type 0 where
+  pub numbered : 0 < o .number
+  pub given-already : o .number ≤ given
+  pub of-member : T (isMember (o .member))
+  pub open-quantity : T (isQuantity (o .left))
+  pub legal : T (isLegal step (o .limit))
+
+-- a free place holds the empty values; a taken one holds an order that may rest, in the numbers of 01
+pub record SoundPlace (step given : ℕ) (b : Book) (p : ℕ) : Type 0 where
+  pub free : isTaken (b .taken) p ≡ false → rawAt b p ≡ emptyRaw
+  pub coded : isTaken (b .taken) p ≡ true → rawOf (orderAt b p) ≡ rawAt b p
+  pub rests : isTaken (b .taken) p ≡ true → SoundOrder step given (orderAt b p)
+
+pub record SoundBook (step given : ℕ) (b : Book) : Type 0 where
+  pub sized : Sized b
+  pub each : (p : ℕ) → p < places → SoundPlace step given b p
+  -- no number at two places
+  pub once : (p q : ℕ) → p < places → q < places → isTaken (b .taken) p ≡ true → isTaken (b .taken) q ≡ true → orderAt b p .number ≡ orderAt b q .number → p ≡ q
+
+pub legal-limit : (step : ℕ) (w : Limit) → T (isLegal step w) → T (isLimit w)
+legal-limit step Unlimited h = tt
+legal-limit step (At p) h = and-both (isPrice p) (isMultiple step p) h .0
+
+-- every place of the empty book is free
+pub empty-sound : (step given : ℕ) → SoundBook step given emptyBook
+empty-sound step given = record {
+  sized = record {
+    taken = length-replicate {A = ℕ} 8 0;
+    number = length-replicate {A = ℕ} places 0;
+    member = length-replicate {A = ℕ} places 0;
+    side = length-replicate {A = ℕ} places 0;
+    validity = length-replicate {A = ℕ} places 0;
+    left = length-replicate {A = ℕ} places 0;
+    limit = length-replicate {A = ℕ} places 0;
+  };
+  each = λ p h. record { free = λ e. simp getD-replicate; coded = λ e. absurd (never p e); rests = λ e. absurd (never p e) };
+  once = λ p q h k e f i. absurd (never p e);
+}
+  where
+    never : (p : ℕ) → isTaken (emptyBook .taken) p ≡ true → ⊥
+    never p e = true≢false (sym e ∙ zeros-free 8 p)
+
+-- one place or another
+pub same-or-not : (p q : ℕ) → (p ≡ q) ⊎ (p ≢ q)
+same-or-not p q = go (eqb p q) refl
+  where
+    go : (b : Bool) → eqb p q ≡ b → (p ≡ q) ⊎ (p ≢ q)
+    go true e = inl (eqb-true p q e)
+    go false e = inr (eqb-false p q e)
+
+-- later numbers don't spoil an order
+later-order : (step given later : ℕ) → given ≤ later → (o : Order) → SoundOrder step given o → SoundOrder step later o
+later-order step given later wait o s =
+    record { numbered = s .numbered; given-already = omega (arith, s .given-already); of-member = s .of-member; open-quantity = s .open-quantity; legal = s .legal }
+
+-- A sound book that is changed at one place is sound, where that place is, and where its number is at no other.
+module _ (step given later : ℕ) (wait : given ≤ later) (b c : Book) (sound : SoundBook step given b) (place : ℕ) (sized : Sized c) (same : (p : ℕ) → p ≢ place → SameAt c b p)
+    (there : SoundPlace step later c place)
+    (new : (p : ℕ) → p ≢ place → p < places → isTaken (b .taken) p ≡ true → isTaken (c .taken) place ≡ true → orderAt b p .number ≢ orderAt c place .number) where
+  -- what is known of another place
+  taken-before : (p : ℕ) → p ≢ place → isTaken (c .taken) p ≡ true → isTaken (b .taken) p ≡ true
+  taken-before p n e = sym (same p n .0) ∙ e
+
+  order-before : (p : ℕ) → p ≢ place → orderAt c p ≡ orderAt b p
+  order-before p n = ap orderFrom (same p n .1)
+
+  elsewhere : (p : ℕ) → p < places → p ≢ place → SoundPlace step later c p
+  elsewhere p h n = record {
+    free = λ e. same p n .1 ∙ sound .each p h .free (sym (same p n .0) ∙ e);
+    coded = λ e. ap rawOf (order-before p n) ∙ sound .each p h .coded (taken-before p n e) ∙ sym (same p n .1);
+    rests = λ e. rw (order-before p n) (later-order step given later wait (orderAt b p) (sound .each p h .rests (taken-before p n e)));
+  }
+
+  -- two places, one of which is the changed one
+  apart-from : (p : ℕ) → p ≢ place → p < places → isTaken (c .taken) p ≡ true → isTaken (c .taken) place ≡ true → orderAt c p .number ≢ orderAt c place .number
+  apart-from p n h e f i = new p n h (taken-before p n e) f (ap (λ (o : Order). o .number) (sym (order-before p n)) ∙ i)
+
+  pub changed-sound : SoundBook step later c
+  changed-sound = record {
+    sized = sized;
+    each = λ p h. ⊎-elim (λ i. rw i there) (λ n. elsewhere p h n) (same-or-not p place);
+    once = λ p q h k e f i. ⊎-elim
+        (λ at-p. ⊎-elim
+        (λ at-q. at-p ∙ sym at-q)
+        (λ n. absurd (apart-from q n k f (subst (λ (x : ℕ). isTaken (c .taken) x ≡ true) at-p e) (sym i ∙ ap (λ (x : ℕ). orderAt c x .number) at-p)))
+        (same-or-not q place))
+        (λ m. ⊎-elim
+        (λ at-q. absurd (apart-from p m h e (subst (λ (x : ℕ). isTaken (c .taken) x ≡ true) at-q f) (i ∙ ap (λ (x : ℕ). orderAt c x .number) at-q)))
+        (λ n. sound .once p q h k (taken-before p m e) (taken-before q n f)
+        (ap (λ (o : Order). o .number) (sym (order-before p m)) ∙ i ∙ ap (λ (o : Order). o .number) (order-before q n)))
+        (same-or-not q place))
+        (same-or-not p place);
+  }
+
+-- A free place takes an order with a number above all that were given.
+pub stored-sound : (step given : ℕ) (b : Book) → SoundBook step given b → (place : ℕ) → place < places → (o : Order) → given < o .number → SoundOrder step (o .number) o
+    → SoundBook step (o .number) (stored b place o)
+stored-sound step given b sound place here o above good =
+    changed-sound step given (o .number) (omega arith) b (stored b place o) sound place (stored-sized b (sound .sized) place here o) (stored-elsewhere b (sound .sized) place here o)
+    (record {
+      free = λ e. absurd (true≢false (sym (stored-taken b (sound .sized) place here o) ∙ e));
+      coded = λ e. ap rawOf back ∙ sym (stored-raw b (sound .sized) place here o);
+      rests = λ e. rw back good;
+    })
+    (λ p n h e f i. let least = sound .each p h .rests e .given-already in let same = i ∙ ap (λ (x : Order). x .number) back in omega arith)
+  where
+    back : orderAt (stored b place o) place ≡ o
+    back = stored-order b (sound .sized) place here o (legal-limit step (o .limit) (good .legal))
+
+-- Any place may be cleared.
+pub cleared-sound : (step given : ℕ) (b : Book) → SoundBook step given b → (place : ℕ) → place < places → SoundBook step given (cleared b place)
+cleared-sound step given b sound place here =
+    changed-sound step given given (omega arith) b (cleared b place) sound place (cleared-sized b (sound .sized) place here) (cleared-elsewhere b (sound .sized) place here)
+    (record {
+      free = λ e. cleared-raw b (sound .sized) place here;
+      coded = λ e. absurd (never e);
+      rests = λ e. absurd (never e);
+    })
+    (λ p n h e f i. never f)
+  where
+    never : isTaken (cleared b place .taken) place ≡ true → ⊥
+    never e = true≢false (sym e ∙ cleared-free b (sound .sized) place here)
