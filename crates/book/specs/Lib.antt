@@ -1,8 +1,8 @@
 -- The book: which places are taken, and what rests at them.
 pub mod Places
-pub mod Columns
-pub mod Resting
 pub mod Words
+pub mod Columns
 pub mod Changes
-pub mod Sound
+pub mod Resting
 pub mod Rests
+pub mod Sound

@@ -2,7 +2,10 @@
 use Prim.Native.Nat.{ℕ, zero, suc}
 use mathlib.Core.Bool.{Bool, true, false, cond, _&&_}
 use mathlib.Core.Option.{Option, none, some}
+use mathlib.Core.Path.{_≡_, refl}
 use mathlib.Core.List.{List, [], _∷_, _++_}
+use lib.Dec.{eqb}
+use lib.ListN.{getD}
 use Rattle.terms.specs.Bounds.{places}
 use Rattle.terms.specs.declared.orders.{Order.Order}
 use Rattle.book.specs.declared.Book.{Book}
@@ -30,6 +33,13 @@ unfoldable pub findFrom : (Order → Bool) → Book → ℕ → ℕ → ℕ
 findFrom f b place zero = place
 findFrom f b place (suc n) = firstOr (isTaken (b .taken) place && f (orderAt b place)) place (findFrom f b (suc place) n)
 
+-- .. over the columns: the least of n places from one on that is taken and has this number and this member
+unfoldable pub placeIn : List ℕ → List ℕ → List ℕ → ℕ → ℕ → ℕ → ℕ → ℕ
+placeIn taken numbers members number member place zero = place
+placeIn taken numbers members number member place (suc n) =
+    firstOr (isTaken taken place && (eqb (getD numbers place 0) number && eqb (getD members place 0) member)) place
+    (placeIn taken numbers members number member (suc place) n)
+
 abbrev pub placeOf : (Order → Bool) → Book → ℕ
 placeOf f b = findFrom f b 0 places
 
@@ -48,3 +58,32 @@ changedTo change b (suc n) = changedAt change (changedTo change b n) n
 
 abbrev pub changed : (Order → Option Order) → Book → Book
 changed change b = changedTo change b places
+
+-- one place on: this one is it, or it is further on, or there are no more
+module _ (taken numbers members : List ℕ) (number member place : ℕ) where
+  abbrev pub isSought : Bool
+  isSought = isTaken taken place && (eqb (getD numbers place 0) number && eqb (getD members place 0) member)
+
+  pub place-in-hit : (n : ℕ) → isSought ≡ true → placeIn taken numbers members number member place (suc n) ≡ place
+  unfolding placeIn
+  place-in-hit n h = rw h
+
+  pub place-in-miss : (n : ℕ) → isSought ≡ false
+      → placeIn taken numbers members number member place (suc n) ≡ placeIn taken numbers members number member (suc place) n
+  unfolding placeIn
+  place-in-miss n h = rw h
+
+  pub place-in-end : placeIn taken numbers members number member place 0 ≡ place
+  unfolding placeIn
+  place-in-end = refl
+
+-- the columns say what the orders say
+place-in-from : (b : Book) (number member n place : ℕ)
+    → placeIn (b .taken) (b .number) (b .member) number member place n ≡ findFrom (λ o. eqb (o .number) number && eqb (o .member) member) b place n
+unfolding placeIn findFrom
+place-in-from b number member zero place = refl
+place-in-from b number member (suc n) place = rw (place-in-from b number member n (suc place))
+
+pub place-in : (b : Book) (number member : ℕ)
+    → placeIn (b .taken) (b .number) (b .member) number member 0 places ≡ placeOf (λ o. eqb (o .number) number && eqb (o .member) member) b
+place-in b number member = place-in-from b number member places 0

@@ -164,7 +164,7 @@ unfolding unmarked
 unmarked-length ws p = rw length-set
 
 -- ---- the least number at which f is 0: what is found from the front
-pub least-found : (f : ℕ → ℕ) (n r : ℕ) → r ≤ n → ((k : ℕ) → k < r → f k ≡ 1) → (r < n → f r ≡ 0) → r ≡ least f n
+least-found : (f : ℕ → ℕ) (n r : ℕ) → r ≤ n → ((k : ℕ) → k < r → f k ≡ 1) → (r < n → f r ≡ 0) → r ≡ least f n
 unfolding least
 least-found f zero r h b e = omega arith
 least-found f (suc n) zero h b e = rw (e (omega arith))
@@ -220,7 +220,7 @@ ones-total zero x h = let e : x ≡ 0 = omega (arith, pow-zero 2) in rw e
 ones-total (suc n) x h = ones-step x ∙ ap (λ m. x % 2 + m) (ones-total n (x / 2) (omega (arith, pow-succ' 2 n))) ∙ sym (total-front (λ k. bit k x) n)
 
 -- ---- a word's bits are those of its 64 places
-pub word-bit : (ws : List ℕ) (j k : ℕ) → k < 64 → bitAt ws (j * 64 + k) ≡ bit k (getD ws j 0)
+word-bit : (ws : List ℕ) (j k : ℕ) → k < 64 → bitAt ws (j * 64 + k) ≡ bit k (getD ws j 0)
 word-bit ws j k h =
     let d : (j * 64 + k) / 64 ≡ j = omega arith in
     let m : (j * 64 + k) % 64 ≡ k = omega arith in
@@ -231,13 +231,25 @@ total-word ws j =
     let e : (j + 1) * 64 ≡ j * 64 + 64 = omega arith in
     ap (total (bitAt ws)) e ∙ total-add (bitAt ws) (j * 64) 64 ∙ ap (λ n. total (bitAt ws) (j * 64) + n) (total-same _ _ 64 (λ k h. word-bit ws j k h))
 
--- the front of all set places grows within the next word
-pub front-more : (ws : List ℕ) (j z : ℕ) → z ≤ 64 → ((k : ℕ) → k < j * 64 → bitAt ws k ≡ 1) → ((k : ℕ) → k < z → bit k (getD ws j 0) ≡ 1)
-    → (k : ℕ) → k < j * 64 + z → bitAt ws k ≡ 1
-front-more ws j z l old new k h =
-    ⊎-elim (λ b. old k (omega tests)) (λ b. let d : k / 64 ≡ j = omega tests in rw d (new (k % 64) (omega tests))) (decided (ltb k (j * 64)))
+-- every place below n is taken
+abbrev pub FullTo : List ℕ → ℕ → Type 0
+FullTo ws n = (k : ℕ) → k < n → bitAt ws k ≡ 1
 
--- ---- the lowest free place
+-- .. and so up to the lowest clear bit of the next word, which is the lowest free place
+module _ (ws : List ℕ) (j z : ℕ) (low : LowClear (getD ws j 0) z) (full : FullTo ws (j * 64)) where
+  pub full-more : FullTo ws (j * 64 + z)
+  full-more k h =
+      ⊎-elim (λ b. full k (omega tests))
+      (λ b. let d : k / 64 ≡ j = omega (tests, low .most) in rw d (low .below (k % 64) (omega tests)))
+      (decided (ltb k (j * 64)))
+
+  pub lowest-free-found : j < 8 → z < 64 → j * 64 + z ≡ lowestFree ws
+  lowest-free-found i h = least-found (bitAt ws) places (j * 64 + z) (omega arith) full-more (λ l. word-bit ws j z h ∙ low .clear h)
+
+pub lowest-free-none : (ws : List ℕ) → FullTo ws places → places ≡ lowestFree ws
+lowest-free-none ws full = least-found (bitAt ws) places places (omega arith) full (λ l. absurd (omega arith))
+
+-- ---- where a place is free, the lowest is
 least-room : (f : ℕ → ℕ) (n : ℕ) → ((k : ℕ) → f k < 2) → (total f n ≡ n → ⊥) → least f n < n
 least-room f n two full =
     ⊎-elim (λ b. omega tests)

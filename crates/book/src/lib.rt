@@ -1,6 +1,12 @@
 // The book: 512 places shared by both sides, as columns of numbers, and eight words that say which places are taken
 // (01 "Numbers and their bounds"). A free place holds the empty value 0 in every column.
-// Its definitions are in specs/; the code comes with entry.
+mod columns;
+mod places;
+
+pub use columns::place_of;
+pub use places::count_taken;
+pub use places::lowest_free;
+
 pub struct Book {
     pub taken: [u64; 8],
     pub number: [u32; 512],

@@ -2,7 +2,7 @@
 use Prim.Native.Nat.{ℕ, zero, suc}
 use lib.Dec.{eqb}
 use mathlib.Core.Bool.{Bool, true, false, _&&_, cond}
-use mathlib.Core.Path.{_≡_}
+use mathlib.Core.Path.{_≡_, refl}
 use Rattle.terms.specs.Kinds.{within, isPrice, isQuantity, isMember, isReference}
 use Rattle.terms.specs.declared.orders.Side.{Side}
 use Rattle.terms.specs.declared.orders.Side.the-variants.{Buy, Sell}
@@ -95,3 +95,8 @@ pub order-made : {s : SideMade} {v : ValidityMade} {b : Bool} (n : ℕ) (e : Ent
     → b ≡ numbersHold e → orderWith s v b n e ≡ orderOf n e
 unfolding orderOf
 order-made n e p q r = rw (p, q, r)
+
+-- a number that is not 0 is a price
+pub limit-from : (x : ℕ) → (x ≡ 0 → ⊥) → At x ≡ limitFrom x
+limit-from zero h = absurd (h refl)
+limit-from (suc n) h = refl

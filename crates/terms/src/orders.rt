@@ -3,7 +3,7 @@ use crate::kinds::Member;
 use crate::kinds::Price;
 use crate::kinds::Quantity;
 ghost use mathlib.Core.Path.{_≡_};
-ghost use Rattle.terms.specs.Orders.{sideOf, validityOf, auctionOf, isLimit, numbersHold, orderOf};
+ghost use Rattle.terms.specs.Orders.{sideOf, sideNumber, validityOf, validityNumber, auctionOf, isLimit, limitNumber, limitFrom, numbersHold, orderOf};
 
 pub enum Side {
     Buy,
@@ -28,6 +28,15 @@ impl Side {
             Side::BUY => SideMade::Good(Side::Buy),
             Side::SELL => SideMade::Good(Side::Sell),
             _ => SideMade::Refused,
+        }
+    }
+
+    pub fn number(self) -> u8
+        ensures { λ r. ⌜ r ≡ sideNumber self ⌝ }
+    {
+        match self {
+            Side::Buy => Side::BUY,
+            Side::Sell => Side::SELL,
         }
     }
 }
@@ -63,6 +72,17 @@ impl Validity {
             Validity::DAY => ValidityMade::Good(Validity::Day),
             Validity::LATER_DAY => ValidityMade::Good(Validity::LaterDay),
             _ => ValidityMade::Refused,
+        }
+    }
+
+    pub fn number(self) -> u8
+        ensures { λ r. ⌜ r ≡ validityNumber self ⌝ }
+    {
+        match self {
+            Validity::AtOpening => Validity::AT_OPENING,
+            Validity::AtClose => Validity::AT_CLOSE,
+            Validity::Day => Validity::DAY,
+            Validity::LaterDay => Validity::LATER_DAY,
         }
     }
 }
@@ -101,6 +121,28 @@ pub enum Limit {
 }
 
 impl Limit {
+    // As a number 0 means unlimited.
+    pub const UNLIMITED: u32 = 0;
+
+    pub fn number(self) -> u32
+        ensures { λ r. ⌜ r ≡ limitNumber self ⌝ }
+    {
+        match self {
+            Limit::Unlimited => Limit::UNLIMITED,
+            Limit::At(p) => p,
+        }
+    }
+
+    pub fn from(x: u32) -> Limit
+        ensures { λ r. ⌜ r ≡ limitFrom x ⌝ }
+    {
+        if x == Limit::UNLIMITED {
+            Limit::Unlimited
+        } else {
+            Limit::At(x)
+        }
+    }
+
     pub fn holds(self) -> bool
         ensures { λ r. ⌜ r ≡ isLimit self ⌝ }
     {

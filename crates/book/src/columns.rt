@@ -1,0 +1,124 @@
+// Columns: how an order stands at a place, and storing, clearing and finding one.
+use crate::Book;
+use crate::places::bit_of;
+use crate::places::marked;
+use crate::places::unmarked;
+use terms::Limit;
+use terms::Order;
+use terms::Side;
+use terms::Validity;
+ghost use mathlib.Core.Path.{_≡_};
+ghost use Prim.Native.Nat.{_<_};
+ghost use Rattle.book.specs.Columns.{sideFrom, validityFrom, orderAt, emptyBook, stored, cleared};
+ghost use Rattle.book.specs.Resting.{placeIn};
+
+// Sides and validities stand under their numbers of 01.
+fn side_from(x: u8) -> Side
+    ensures { λ r. ⌜ r ≡ sideFrom x ⌝ }
+{
+    if x == Side::BUY {
+        Side::Buy
+    } else {
+        Side::Sell
+    }
+}
+
+fn validity_from(x: u8) -> Validity
+    ensures { λ r. ⌜ r ≡ validityFrom x ⌝ }
+{
+    match x {
+        Validity::AT_OPENING => Validity::AtOpening,
+        Validity::AT_CLOSE => Validity::AtClose,
+        Validity::DAY => Validity::Day,
+        _ => Validity::LaterDay,
+    }
+}
+
+impl Book {
+    pub fn empty() -> Book
+        ensures { λ r. ⌜ r ≡ emptyBook ⌝ }
+    {
+        Book {
+            taken: [0u64; 8],
+            number: [0u32; 512],
+            member: [0u16; 512],
+            side: [0u8; 512],
+            validity: [0u8; 512],
+            left: [0u32; 512],
+            limit: [0u32; 512],
+        }
+    }
+
+    pub fn stored(mut self, place: usize, o: Order) -> Book
+        requires { ⌜ place < 512 ⌝ }
+        ensures { λ r. ⌜ r ≡ stored self place o ⌝ }
+    {
+        let side = o.side;
+        let validity = o.validity;
+        let limit = o.limit;
+        let taken = self.taken;
+        self.taken = marked(taken, place);
+        self.number[place] = o.number;
+        self.member[place] = o.member;
+        self.side[place] = side.number();
+        self.validity[place] = validity.number();
+        self.left[place] = o.left;
+        self.limit[place] = limit.number();
+        self
+    }
+
+    // The place goes back to the empty values.
+    pub fn cleared(mut self, place: usize) -> Book
+        requires { ⌜ place < 512 ⌝ }
+        ensures { λ r. ⌜ r ≡ cleared self place ⌝ }
+    {
+        let taken = self.taken;
+        self.taken = unmarked(taken, place);
+        self.number[place] = 0;
+        self.member[place] = 0;
+        self.side[place] = 0;
+        self.validity[place] = 0;
+        self.left[place] = 0;
+        self.limit[place] = 0;
+        self
+    }
+
+    pub fn order_at(self, place: usize) -> Order
+        requires { ⌜ place < 512 ⌝ }
+        ensures { λ r. ⌜ r ≡ orderAt self place ⌝ }
+    {
+        let side = side_from(self.side[place]);
+        let validity = validity_from(self.validity[place]);
+        let limit = Limit::from(self.limit[place]);
+        Order {
+            number: self.number[place],
+            member: self.member[place],
+            side,
+            validity,
+            left: self.left[place],
+            limit,
+        }
+    }
+}
+
+// The least place whose resting order has this number and this member, or 512.
+pub fn place_of<'a>(
+    taken: &'a [u64; 8],
+    numbers: &'a [u32; 512],
+    members: &'a [u16; 512],
+    number: u32,
+    member: u16,
+) -> usize
+    ensures { λ r. ⌜ r ≡ placeIn (now (taken .entry)) (now (numbers .entry)) (now (members .entry)) number member 0 512 ⌝ }
+{
+    let mut place: usize = 0;
+    while place < 512 {
+        if (numbers[place] == number) & (members[place] == member) {
+            if bit_of(taken[place / 64], place % 64) == 1 {
+                return place;
+            }
+        }
+        place += 1;
+    }
+    512
+}
