@@ -1,6 +1,8 @@
 -- Fresh, start, order and delete: what each call returns and leaves, refusals included.
 use Prim.Native.Nat.{ℕ, zero, suc, _+_}
 use mathlib.Core.Bool.{Bool, false, not, _&&_}
+use mathlib.Core.Logic.{_≢_}
+use mathlib.Core.Path.{_≡_, refl}
 use mathlib.Core.List.{List, [], _∷_}
 use lib.Dec.{eqb, leb}
 use Rattle.lists.specs.Choice.{any}
@@ -14,7 +16,7 @@ use Rattle.book.specs.declared.Book.{Book}
 use Rattle.book.specs.Places.{lowestFree, countTaken}
 use Rattle.book.specs.Columns.{emptyBook, stored, cleared}
 use Rattle.book.specs.Resting.{resting, placeOf}
-use Rattle.session.specs.declared.{Session.Session, Started.Started, Entered.Entered, Deleted.Deleted, Phase.the-variants.Fresh, Phase.the-variants.PreOpening}
+use Rattle.session.specs.declared.{Session.Session, Phase.Phase, Started.Started, Entered.Entered, Deleted.Deleted, Phase.the-variants.Fresh, Phase.the-variants.PreOpening}
 use Rattle.session.specs.Phases.{hasStarted, allowsOrder}
 use Rattle.session.specs.Checks.{check, Check, firstHit}
 use Rattle.session.specs.Controls.{controlReference, offStep, reachesCollar, reachesMost, reachesMostAtReference}
@@ -95,12 +97,15 @@ entered s e = orderAnswer (firstHit (orderChecks s e)) s e
 abbrev pub isOf : ℕ → ℕ → Order → Bool
 isOf number member o = eqb (o .number) number && eqb (o .member) member
 
-abbrev pub deleteChecks : Session → ℕ → ℕ → List Check
-deleteChecks s number member =
+abbrev pub deleteRows : Phase → ℕ → ℕ → Bool → List Check
+deleteRows phase number member absent =
     check 1 (not (isNumber number && isMember member))
-    ∷ check 2 (not (hasStarted (s .phase)))
-    ∷ check 11 (not (any (isOf number member) (resting (s .book))))
+    ∷ check 2 (not (hasStarted phase))
+    ∷ check 11 absent
     ∷ []
+
+abbrev pub deleteChecks : Session → ℕ → ℕ → List Check
+deleteChecks s number member = deleteRows (s .phase) number member (not (any (isOf number member) (resting (s .book))))
 
 -- a place freed by a deletion is free at once
 abbrev pub deletedSession : Session → ℕ → ℕ → Session
@@ -119,3 +124,16 @@ deleteAnswer (suc n) s number member = record { answer = suc n; session = s }
 
 unfoldable pub deleted : Session → ℕ → ℕ → Deleted
 deleted s number member = deleteAnswer (firstHit (deleteChecks s number member)) s number member
+
+-- A refusal returns its number and zero for every other number, and the session as it was (A5).
+pub start-refused : (n : ℕ) (s : Session) (p : Parameters) → n ≢ 0 → startAnswer n s p ≡ record { answer = n; session = s }
+start-refused zero s p h = absurd (h refl)
+start-refused (suc n) s p h = refl
+
+pub order-refused : (n : ℕ) (s : Session) (e : Entry) → n ≢ 0 → orderAnswer n s e ≡ record { answer = n; number = 0; session = s }
+order-refused zero s e h = absurd (h refl)
+order-refused (suc n) s e h = refl
+
+pub delete-refused : (n : ℕ) (s : Session) (number member : ℕ) → n ≢ 0 → deleteAnswer n s number member ≡ record { answer = n; session = s }
+delete-refused zero s number member h = absurd (h refl)
+delete-refused (suc n) s number member h = refl

@@ -11,3 +11,4 @@ pub mod Table
 pub mod Sums
 pub mod Exactly
 pub mod Sound
+pub mod Calls

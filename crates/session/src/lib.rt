@@ -1,7 +1,17 @@
 // A session for one security: phases and the seven public calls, in the words of 01. A session goes in by value and
-// comes back by value. Its definitions are in specs/; the calls come with entry and with the auction.
+// comes back by value. The auction's calls are not there yet.
+mod checks;
+
 use book::Book;
+use terms::Entry;
+use terms::Order;
+use terms::OrderMade;
 use terms::Parameters;
+use terms::ParametersMade;
+ghost use mathlib.Core.Path.{_≡_};
+ghost use Rattle.terms.specs.Parameters.{parametersFrom};
+ghost use Rattle.session.specs.Entry.{freshSession, started as Entry·started, entered as Entry·entered, deleted as Entry·deleted};
+ghost use Rattle.session.specs.Sound.{Sound};
 
 pub enum Phase {
     Fresh,
@@ -60,4 +70,139 @@ pub struct Foreseen {
 pub struct Queued {
     pub answer: u8,
     pub count: u32,
+}
+
+impl Session {
+    // A session that has not started.
+    pub fn fresh() -> Session
+        ensures { λ r. ⌜ r ≡ freshSession ⌝ }
+    {
+        Session {
+            phase: Phase::Fresh,
+            delayed: false,
+            parameters: Parameters {
+                step: 0,
+                reference: 0,
+                factor: 0,
+                threshold: 0,
+                most: 0,
+            },
+            reference: 0,
+            given: 0,
+            book: Book::empty(),
+        }
+    }
+
+    // Start: refusals 1, 3.
+    pub fn start(self, step: u32, reference: u32, factor: u16, threshold: u16, most: u64) -> Started
+        requires { ⌜ Sound self ⌝ }
+        ensures { λ r. ⌜ r ≡ Entry·started self (parametersFrom step reference factor threshold most) ⌝ }
+    {
+        let ParametersMade::Good(parameters) = Parameters::new(
+            step,
+            reference,
+            factor,
+            threshold,
+            most,
+        ) else {
+            return Started {
+                answer: 1,
+                session: self,
+            };
+        };
+        let phase = self.phase;
+        if checks::has_started(phase) {
+            return Started {
+                answer: 3,
+                session: self,
+            };
+        }
+        let book = self.book;
+        let session = Session {
+            phase: Phase::PreOpening,
+            delayed: self.delayed,
+            parameters,
+            reference,
+            given: self.given,
+            book,
+        };
+        Started { answer: 0, session }
+    }
+
+    // Order: refusals 1, 2, 4, 5, 6, 7, 8, 9, 10. An accepted order takes the next number and the lowest free place.
+    pub fn order(self, e: Entry) -> Entered
+        requires { ⌜ Sound self ⌝ }
+        ensures { λ r. ⌜ r ≡ Entry·entered self e ⌝ }
+    {
+        let answer = self.order_refusal(e);
+        if answer != 0 {
+            return Entered {
+                answer,
+                number: 0,
+                session: self,
+            };
+        }
+        let number = self.given + 1;
+        let OrderMade::Good(o) = Order::new(number, e) else {
+            // Never: an entry that is not refused has its fields in range.
+            return Entered {
+                answer: 1,
+                number: 0,
+                session: self,
+            };
+        };
+        let phase = self.phase;
+        let parameters = self.parameters;
+        let old = self.book;
+        let taken = old.taken;
+        let place = book::lowest_free(taken);
+        let book = old.stored(place, o);
+        let session = Session {
+            phase,
+            delayed: self.delayed,
+            parameters,
+            reference: self.reference,
+            given: number,
+            book,
+        };
+        Entered {
+            answer: 0,
+            number,
+            session,
+        }
+    }
+
+    // Delete: refusals 1, 2, 11. The place is free at once.
+    pub fn delete(self, number: u32, member: u16) -> Deleted
+        requires { ⌜ Sound self ⌝ }
+        ensures { λ r. ⌜ r ≡ Entry·deleted self number member ⌝ }
+    {
+        let phase = self.phase;
+        let place = book::place_of(
+            &self.book.taken,
+            &self.book.number,
+            &self.book.member,
+            number,
+            member,
+        );
+        let answer = checks::delete_refusal(phase, number, member, place);
+        if answer != 0 {
+            return Deleted {
+                answer,
+                session: self,
+            };
+        }
+        let parameters = self.parameters;
+        let old = self.book;
+        let book = old.cleared(place);
+        let session = Session {
+            phase,
+            delayed: self.delayed,
+            parameters,
+            reference: self.reference,
+            given: self.given,
+            book,
+        };
+        Deleted { answer: 0, session }
+    }
 }

@@ -3,9 +3,12 @@ use Prim.Native.Nat.{ℕ, zero, suc}
 use mathlib.Core.Bool.{Bool, true, false, _&&_}
 use mathlib.Core.Path.{_≡_, refl}
 use lib.Dec.{T, leb}
+use native.Mathlib.Omega.{arith}
 use Rattle.lists.specs.Tests.{tests, and-both}
 use Rattle.terms.specs.Kinds.{isMember, isQuantity}
 use Rattle.terms.specs.Orders.{isSide, isValidity, isLimit, sideOf, validityOf, isEntry, orderOf}
+use Rattle.terms.specs.Parameters.{areParameters, parametersFrom, parametersWith, parametersOf}
+use Rattle.terms.specs.declared.parameters.{Parameters.Parameters, ParametersMade.ParametersMade}
 use Rattle.terms.specs.declared.orders.{Side.Side, Side.the-variants.Buy, Side.the-variants.Sell, Validity.Validity, Validity.the-variants.AtOpening, Validity.the-variants.AtClose, Validity.the-variants.Day, Validity.the-variants.LaterDay, SideMade.SideMade, ValidityMade.ValidityMade, Order.Order, OrderMade.OrderMade, Entry.Entry}
 
 side-made : (x : ℕ) → T (isSide x) → (s : Side) × (sideOf x ≡ SideMade.Good s)
@@ -68,3 +71,22 @@ entry-asks n e h =
     numbers true true false h k l = absurd l
     numbers true false c h k l = absurd k
     numbers false b c h k l = absurd h
+
+-- What `Parameters::new` answers says whether the numbers are parameters.
+module _ (step reference factor threshold most : ℕ) where
+  with-refused : (b : Bool) → parametersWith b step reference factor threshold most ≡ ParametersMade.Refused → b ≡ false
+  with-refused true e = let z : _≡_ {A = ℕ} 0 1 = cc in absurd (omega arith)
+  with-refused false e = refl
+
+  with-good : (b : Bool) (p : Parameters) → parametersWith b step reference factor threshold most ≡ ParametersMade.Good p → (b ≡ true) × (p ≡ parametersFrom step reference factor threshold most)
+  with-good true p e = (refl, cc)
+  with-good false p e = let z : _≡_ {A = ℕ} 0 1 = cc in absurd (omega arith)
+
+  pub parameters-refused : parametersOf step reference factor threshold most ≡ ParametersMade.Refused → areParameters step reference factor threshold most ≡ false
+  unfolding parametersOf
+  parameters-refused e = with-refused (areParameters step reference factor threshold most) e
+
+  pub parameters-good : (p : Parameters) → parametersOf step reference factor threshold most ≡ ParametersMade.Good p
+      → (areParameters step reference factor threshold most ≡ true) × (p ≡ parametersFrom step reference factor threshold most)
+  unfolding parametersOf
+  parameters-good p e = with-good (areParameters step reference factor threshold most) p e

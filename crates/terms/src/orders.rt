@@ -3,7 +3,7 @@ use crate::kinds::Member;
 use crate::kinds::Price;
 use crate::kinds::Quantity;
 ghost use mathlib.Core.Path.{_≡_};
-ghost use Rattle.terms.specs.Orders.{sideOf, sideNumber, validityOf, validityNumber, auctionOf, isLimit, limitNumber, limitFrom, numbersHold, orderOf};
+ghost use Rattle.terms.specs.Orders.{isSide, sideOf, sideNumber, isValidity, validityOf, validityNumber, isEntry, auctionOf, isLimit, limitNumber, limitFrom, numbersHold, orderOf};
 
 pub enum Side {
     Buy,
@@ -19,6 +19,12 @@ impl Side {
     pub const BUY: u8 = 1;
 
     pub const SELL: u8 = 2;
+
+    pub fn holds(x: u8) -> bool
+        ensures { λ r. ⌜ r ≡ isSide x ⌝ }
+    {
+        (Side::BUY <= x) & (x <= Side::SELL)
+    }
 
     // 1 buy, 2 sell; another number is no side.
     pub fn new(x: u8) -> SideMade
@@ -61,6 +67,12 @@ impl Validity {
     pub const DAY: u8 = 3;
 
     pub const LATER_DAY: u8 = 4;
+
+    pub fn holds(x: u8) -> bool
+        ensures { λ r. ⌜ r ≡ isValidity x ⌝ }
+    {
+        (Validity::AT_OPENING <= x) & (x <= Validity::LATER_DAY)
+    }
 
     // 1 at-the-opening, 2 at-the-close, 3 day, 4 till a later day; another number is no validity.
     pub fn new(x: u8) -> ValidityMade
@@ -175,6 +187,17 @@ pub struct Entry {
     pub validity: u8,
     pub quantity: u32,
     pub limit: Limit,
+}
+
+impl Entry {
+    // Every field is in its range.
+    pub fn holds(self) -> bool
+        ensures { λ r. ⌜ r ≡ isEntry self ⌝ }
+    {
+        let limit = self.limit;
+        let sided = Member::holds(self.member) & Side::holds(self.side);
+        sided & Validity::holds(self.validity) & Quantity::holds(self.quantity) & limit.holds()
+    }
 }
 
 fn numbers_hold(e: Entry) -> bool
