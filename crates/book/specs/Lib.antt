@@ -6,3 +6,4 @@ pub mod Changes
 pub mod Resting
 pub mod Rests
 pub mod Sound
+pub mod Additions

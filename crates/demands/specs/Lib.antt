@@ -2,3 +2,6 @@
 pub mod Ranks
 pub mod Prices
 pub mod Traded
+pub mod Answers
+pub mod Sequences
+pub mod Entries
