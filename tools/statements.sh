@@ -10,7 +10,7 @@ while IFS='|' read -r _ id file names _; do
     [ "$file" != open ] || continue
     [ -f "$file" ] || { echo "statements: $id: no file $file"; bad=1; continue; }
     for name in $(echo "$names" | tr -d '`' | tr ',' ' '); do
-        grep -qE "^ *((unfoldable|abbrev|pub) )*(record )?$name( |\$)" "$file" || { echo "statements: $id: no $name in $file"; bad=1; }
+        grep -qE "^ *((unfoldable|abbrev|pub) )*((record|data) )?$name( |\$)" "$file" || { echo "statements: $id: no $name in $file"; bad=1; }
     done
     grep -q -- "$id" "$file" || { echo "statements: $file does not carry the id $id"; bad=1; }
 done <docs/STATEMENTS.md

@@ -10,6 +10,11 @@ use lib.ListN.{length}
 use Rattle.lists.specs.Sums.{_∈_, counted, sum}
 use Rattle.terms.specs.Bounds.{places, maxTrades}
 use Rattle.terms.specs.declared.orders.{Side.Side, Side.the-variants.Buy, Side.the-variants.Sell, Auction.Auction, Auction.the-variants.Opening, Auction.the-variants.Closing, Order.Order}
+use Rattle.book.specs.Resting.{resting}
+use Rattle.book.specs.Rests.{resting-length}
+use Rattle.session.specs.declared.{Session.Session}
+use Rattle.session.specs.Sound.{Sound}
+use Rattle.session.specs.Reach.{resting-distinct, resting-live}
 use Rattle.queue.specs.Part.{takingPart, takingPart-distinct, takingPart-elim, takingPart-length}
 use Rattle.queue.specs.Distinct.{Distinct}
 use Rattle.queue.specs.Rank.{ahead, onSide}
@@ -30,6 +35,14 @@ pub record Ranged (resting : List Order) : Type 0 where
   pub distinct : Distinct resting
   pub live : (o : Order) → o ∈ resting → 0 < o .left
   pub few : length resting ≤ places
+
+-- every session that can be reached has such a book (A6)
+pub sound-ranged : (s : Session) → Sound s → Ranged (resting (s .book))
+sound-ranged s sound = record {
+  distinct = resting-distinct (s .parameters .step) (s .given) (s .book) (sound .book-sound);
+  live = resting-live (s .parameters .step) (s .given) (s .book) (sound .book-sound);
+  few = resting-length (s .book) places;
+}
 
 -- An auction of the resting orders: its mark, threshold and reference price are any.
 module _ (a : Auction) (delayed : Bool) (threshold reference : ℕ) (resting : List Order) where

@@ -1,9 +1,9 @@
 -- Numbers are distinct: 01 "A number is never given twice". The one premise of the laws of rank and of demand 3.
 use Prim.Native.Nat.{ℕ, _+_, _≤_}
 use mathlib.Core.Bool.{Bool, true, false, cond}
-use mathlib.Core.Logic.{_≢_}
-use mathlib.Core.Path.{_≡_, refl, sym, _∙_}
-use mathlib.Core.List.{List, [], _∷_, List·Memᴰ·head, List·Memᴰ·tail}
+use mathlib.Core.Logic.{_≢_, ⊎-elim}
+use mathlib.Core.Path.{_≡_, refl, sym, ap, _∙_}
+use mathlib.Core.List.{List, [], _∷_, _++_, List·Memᴰ·head, List·Memᴰ·tail, List·Memᴰ·not-nil, List·Memᴰ·eq-of-singleton, List·Memᴰ·append-cases}
 use native.Mathlib.Omega.{arith}
 use lib.Dec.{T}
 use Rattle.lists.specs.Sums.{_∈_, counted, sum}
@@ -40,3 +40,11 @@ distinct-sum n top f w (o ∷ os) (others, d) only h = go (f (o .number)) (only 
         → counted b (w o) + sum (λ x. counted (f (x .number)) (w x)) os ≤ top
     go true e below = omega (arith, h o (List·Memᴰ·head refl) (e tt), below 0 (λ x m i. absurd (others x m (i ∙ sym (e tt)))))
     go false e below = omega (arith, below top (λ x m i. h x (List·Memᴰ·tail m) i))
+
+-- one more order, with a number that none has
+pub distinct-snoc : (os : List Order) (o : Order) → Distinct os → ((x : Order) → x ∈ os → x .number ≢ o .number) → Distinct (os ++ (o ∷ []))
+distinct-snoc [] o d new = ((λ x m. absurd (List·Memᴰ·not-nil m)), tt)
+distinct-snoc (y ∷ ys) o (others, d) new = (
+  (λ x m. ⊎-elim (others x) (λ k i. new y (List·Memᴰ·head refl) (sym i ∙ ap (λ (z : Order). z .number) (List·Memᴰ·eq-of-singleton k))) (List·Memᴰ·append-cases ys m)),
+  distinct-snoc ys o d (λ x m. new x (List·Memᴰ·tail m)),
+)

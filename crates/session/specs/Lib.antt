@@ -12,3 +12,4 @@ pub mod Sums
 pub mod Exactly
 pub mod Sound
 pub mod Calls
+pub mod Reach

@@ -72,6 +72,7 @@ pub struct Queued {
     pub count: u32,
 }
 
+// The promise of each call is one equation: everything that it returns and the session after it (A1).
 impl Session {
     // A session that has not started.
     pub fn fresh() -> Session
