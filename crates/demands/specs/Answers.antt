@@ -4,14 +4,14 @@ use Prim.Native.Nat.{ℕ, zero, suc, _<_}
 use mathlib.Core.Bool.{not, _&&_}
 use mathlib.Core.Logic.{_↔_, _≢_}
 use mathlib.Core.Path.{_≡_, refl, sym, _∙_}
-use mathlib.Core.List.{List}
+use mathlib.Core.List.{List, []}
 use lib.Dec.{T, leb, eqb}
 use Rattle.lists.specs.Choice.{any}
 use Rattle.terms.specs.Bounds.{places, maxNumber}
 use Rattle.terms.specs.Kinds.{isNumber, isMember}
-use Rattle.terms.specs.Orders.{isEntry}
+use Rattle.terms.specs.Orders.{isEntry, sideOf}
 use Rattle.terms.specs.Parameters.{areParameters}
-use Rattle.terms.specs.declared.orders.{Entry.Entry}
+use Rattle.terms.specs.declared.orders.{Side.Side, SideMade.SideMade, Entry.Entry}
 use Rattle.terms.specs.declared.parameters.{Parameters.Parameters}
 use Rattle.book.specs.Places.{countTaken}
 use Rattle.book.specs.Resting.{resting}
@@ -20,6 +20,7 @@ use Rattle.session.specs.Phases.{hasStarted, allowsOrder}
 use Rattle.session.specs.Controls.{offStep, reachesCollar, reachesMost, reachesMostAtReference}
 use Rattle.session.specs.Checks.{Check, firstHit}
 use Rattle.session.specs.Exactly.{ruleOf, earlier, NoneHit, wellNumbered, none-hit, given-exactly-when}
+use Rattle.session.specs.Queues.{FrontAnswer, frontChecks, frontAnswer, filledFront, front-side}
 use Rattle.session.specs.Entry.{freshSession, startChecks, startAnswer, started, orderChecks, orderAnswer, entered, deleteChecks, deleteAnswer, deleted, isOf}
 
 -- A2. Any two outcomes that a promise allows are equal.
@@ -28,6 +29,7 @@ pub record OneAnswer : Type 0 where
   pub of-start : (s : Session) (p : Parameters) (r q : Started) → r ≡ started s p → q ≡ started s p → r ≡ q
   pub of-order : (s : Session) (e : Entry) (r q : Entered) → r ≡ entered s e → q ≡ entered s e → r ≡ q
   pub of-delete : (s : Session) (number member : ℕ) (r q : Deleted) → r ≡ deleted s number member → q ≡ deleted s number member → r ≡ q
+  pub of-filled-front : (buys sells : List ℕ) (side total : ℕ) (r q : FrontAnswer) → r ≡ filledFront buys sells side total → q ≡ filledFront buys sells side total → r ≡ q
 
 pub one-answer : OneAnswer
 one-answer = record {
@@ -35,6 +37,7 @@ one-answer = record {
   of-start = λ s p r q h k. h ∙ sym k;
   of-order = λ s e r q h k. h ∙ sym k;
   of-delete = λ s number member r q h k. h ∙ sym k;
+  of-filled-front = λ buys sells side total r q h k. h ∙ sym k;
 }
 
 -- A4. The answer is k if and only if k's rule holds and the rule of no earlier check does; 0 if and only if none holds.
@@ -68,6 +71,14 @@ order-exactly s e = exactly (orderChecks s e) tt _ (order-answer (firstHit (orde
 pub delete-exactly : (s : Session) (number member : ℕ) → ExactlyWhen (deleted s number member .answer) (deleteChecks s number member)
 unfolding deleted
 delete-exactly s number member = exactly (deleteChecks s number member) tt _ (delete-answer (firstHit (deleteChecks s number member)) s number member)
+
+front-answer : (n : ℕ) (made : SideMade) (buys sells : List ℕ) (total : ℕ) → (n ≡ 0 → (sd : Side) × (made ≡ SideMade.Good sd)) → frontAnswer n made buys sells total .answer ≡ n
+front-answer (suc n) made buys sells total h = refl
+front-answer zero made buys sells total h = let (sd, i) = h refl in rw i
+
+pub front-exactly : (buys sells : List ℕ) (side total : ℕ) → ExactlyWhen (filledFront buys sells side total .answer) (frontChecks buys sells side)
+unfolding filledFront
+front-exactly buys sells side total = exactly (frontChecks buys sells side) tt _ (front-answer (firstHit (frontChecks buys sells side)) (sideOf side) buys sells total (front-side buys sells side))
 
 -- The rules one by one, as the table of 01 has them.
 pub record Rules (s : Session) : Type 0 where
@@ -104,7 +115,7 @@ rules s = record {
   delete-11 = λ number member. refl;
 }
 
--- A5. A refusal changes nothing, and every other number is 0.
+-- A5. A refusal changes nothing, every other number is 0, and every part is empty.
 pub record ChangesNothing (s : Session) : Type 0 where
   pub start-refused : (p : Parameters) → started s p .answer ≢ 0 → started s p .session ≡ s
   pub order-refused : (e : Entry) → entered s e .answer ≢ 0 → (entered s e .session ≡ s) × (entered s e .number ≡ 0)
@@ -129,3 +140,12 @@ changes-nothing s = record {
     delete : (n : ℕ) (number member : ℕ) → deleteAnswer n s number member .answer ≢ 0 → deleteAnswer n s number member .session ≡ s
     delete zero number member h = absurd (h refl)
     delete (suc n) number member h = refl
+
+pub empty-part : (buys sells : List ℕ) (side total : ℕ) → filledFront buys sells side total .answer ≢ 0 → filledFront buys sells side total .part ≡ []
+unfolding filledFront
+empty-part buys sells side total = go (firstHit (frontChecks buys sells side)) (sideOf side)
+  where
+    go : (n : ℕ) (made : SideMade) → frontAnswer n made buys sells total .answer ≢ 0 → frontAnswer n made buys sells total .part ≡ []
+    go (suc n) made h = refl
+    go zero (SideMade.Good sd) h = absurd (h refl)
+    go zero SideMade.Refused h = refl

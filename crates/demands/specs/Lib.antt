@@ -5,3 +5,4 @@ pub mod Traded
 pub mod Answers
 pub mod Sequences
 pub mod Entries
+pub mod Fronts

@@ -7,6 +7,7 @@ use terms::Member;
 use terms::Number;
 use terms::OrderValue;
 use terms::Place;
+use terms::Side;
 use terms::Step;
 use terms::Validity;
 ghost use mathlib.Core.Path.{_≡_};
@@ -16,6 +17,7 @@ ghost use Rattle.session.specs.Phases.{hasStarted, allowsOrder};
 ghost use Rattle.session.specs.Controls.{offStep, reachesCollar, reachesMost};
 ghost use Rattle.session.specs.Checks.{firstHit};
 ghost use Rattle.session.specs.Entry.{orderChecks, deleteRows};
+ghost use Rattle.session.specs.Queues.{frontChecks};
 
 pub fn has_started(phase: Phase) -> bool
     ensures { λ r. ⌜ r ≡ hasStarted phase ⌝ }
@@ -110,4 +112,12 @@ pub fn delete_refusal(phase: Phase, number: u32, member: u16, place: usize) -> u
     let r11 = first_of(!Place::holds(place), 11, 0);
     let r2 = first_of(!has_started(phase), 2, r11);
     first_of(!(Number::holds(number) & Member::holds(member)), 1, r2)
+}
+
+// Which refusal a filled front gets, 0 for none.
+pub fn front_refusal(buys: &[u64], sells: &[u64], side: u8) -> u8
+    ensures { λ r. ⌜ r ≡ firstHit (frontChecks (now (buys .entry)) (now (sells .entry)) side) ⌝ }
+{
+    let long = (Place::COUNT < buys.len()) | (Place::COUNT < sells.len());
+    first_of(long | !Side::holds(side), 1, 0)
 }

@@ -1,5 +1,5 @@
 // A session for one security: phases and the seven public calls, in the words of 01. A session goes in by value and
-// comes back by value. The auction's calls are not there yet.
+// comes back by value. The auction, the theoretical answer and the ranked queue are not there yet.
 mod checks;
 
 use book::Book;
@@ -8,9 +8,11 @@ use terms::Order;
 use terms::OrderMade;
 use terms::Parameters;
 use terms::ParametersMade;
+use terms::Side;
 ghost use mathlib.Core.Path.{_≡_};
 ghost use Rattle.terms.specs.Parameters.{parametersFrom};
 ghost use Rattle.session.specs.Entry.{freshSession, started as Entry·started, entered as Entry·entered, deleted as Entry·deleted};
+ghost use Rattle.session.specs.Queues.{filledFront, frontAnswered};
 ghost use Rattle.session.specs.Sound.{Sound};
 
 pub enum Phase {
@@ -206,4 +208,27 @@ impl Session {
         };
         Deleted { answer: 0, session }
     }
+}
+
+// Filled front: refusal 1. The longest front part of the side's list whose sum is at most the total; the answer's number goes to `answer`.
+pub fn filled_front<'a>(
+    buys: &'a [u64],
+    sells: &'a [u64],
+    side: u8,
+    total: u64,
+    answer: &mut u8,
+) -> &'a [u64]
+    ensures { λ r. ⌜ frontAnswered (now (answer .exit)) (now r) ≡ filledFront (now (buys .entry)) (now (sells .entry)) side total ⌝ }
+{
+    let refusal = checks::front_refusal(buys, sells, side);
+    *answer = refusal;
+    if refusal != 0 {
+        return &buys[..0];
+    }
+    if side == Side::BUY {
+        let k = queue::front_length(buys, total);
+        return &buys[..k];
+    }
+    let k = queue::front_length(sells, total);
+    &sells[..k]
 }

@@ -11,7 +11,7 @@ use Rattle.terms.specs.Parameters.{areParameters, parametersFrom, parame
 use Rattle.terms.specs.declared.parameters.{Parameters.Parameters, ParametersMade.ParametersMade}
 use Rattle.terms.specs.declared.orders.{Side.Side, Side.the-variants.Buy, Side.the-variants.Sell, Validity.Validity, Validity.the-variants.AtOpening, Validity.the-variants.AtClose, Validity.the-variants.Day, Validity.the-variants.LaterDay, SideMade.SideMade, ValidityMade.ValidityMade, Order.Order, OrderMade.OrderMade, Entry.Entry}
 
-side-made : (x : ℕ) → T (isSide x) → (s : Side) × (sideOf x ≡ SideMade.Good s)
+pub side-made : (x : ℕ) → T (isSide x) → (s : Side) × (sideOf x ≡ SideMade.Good s)
 side-made zero h = absurd h
 side-made (suc zero) h = (Buy, refl)
 side-made (suc (suc zero)) h = (Sell, refl)
