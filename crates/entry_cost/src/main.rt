@@ -1,0 +1,104 @@
+// What one order and one deletion cost where the book is full. It makes a session with 511 orders, and one call more by
+// the byte on standard input: `o` an order, `d` a deletion, any other none. tools/bench.sh counts the instructions.
+use libc::STDIN_FILENO;
+use libc::STDOUT_FILENO;
+use session::Session;
+use terms::Entry;
+use terms::Limit;
+use terms::Side;
+use terms::Validity;
+ghost use Prim.Native.Nat.{_≤_};
+ghost use Rattle.session.specs.Sound.{Sound};
+
+const ORDERS: u32 = 511;
+
+const MEMBER: u16 = 7;
+
+struct LastCall {
+    answer: u8,
+    session: Session,
+}
+
+fn started() -> Session
+    ensures { λ r. ⌜ Sound r ⌝ }
+{
+    let fresh = Session::fresh();
+    let r = fresh.start(100, 100_000, 9, 150, 1_000_000_000_000);
+    let session = r.session;
+    session
+}
+
+fn day_buy() -> Entry {
+    Entry {
+        member: MEMBER,
+        side: Side::BUY,
+        validity: Validity::DAY,
+        quantity: 10,
+        limit: Limit::At(100_000),
+    }
+}
+
+fn filled() -> Session
+    ensures { λ r. ⌜ Sound r ⌝ }
+{
+    let mut session = started();
+    let mut i: u32 = 0;
+    while i < ORDERS {
+        let r = session.order(day_buy());
+        let next = r.session;
+        session = next;
+        i += 1;
+    }
+    session
+}
+
+// The one call more. The last order stands at a late place, the worst case of a deletion.
+fn one_more(session: Session, byte: u8) -> LastCall
+    requires { ⌜ Sound session ⌝ }
+{
+    if byte == b'o' {
+        let r = session.order(day_buy());
+        let next = r.session;
+        return LastCall {
+            answer: r.answer,
+            session: next,
+        };
+    }
+    if byte == b'd' {
+        let r = session.delete(ORDERS, MEMBER);
+        let next = r.session;
+        return LastCall {
+            answer: r.answer,
+            session: next,
+        };
+    }
+    LastCall { answer: 0, session }
+}
+
+fn wide(quantity: u32) -> u64
+    ensures { λ r. ⌜ r ≤ 4294967295 ⌝ }
+{
+    quantity as u64
+}
+
+fn open_quantity(left: &[u32; 512]) -> u64 {
+    let mut sum: u64 = 0;
+    let mut place: usize = 0;
+    while place < 512 {
+        sum += wide(left[place]);
+        place += 1;
+    }
+    sum
+}
+
+// The book is read at the end: a compiler drops what nobody reads.
+fn main() {
+    let mut byte = [0u8; 1];
+    libc::read(STDIN_FILENO, &mut byte);
+    let last = one_more(filled(), byte[0]);
+    let book = last.session.book;
+    io::print_decimal(STDOUT_FILENO, last.answer as u64);
+    io::write_all(STDOUT_FILENO, &[b' ']);
+    io::print_decimal(STDOUT_FILENO, open_quantity(&book.left));
+    io::write_all(STDOUT_FILENO, &[b'\n']);
+}

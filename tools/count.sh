@@ -1,0 +1,54 @@
+#!/bin/sh
+# count.sh PROGRAM [STDIN]: prints how many instructions an x86-64 program executes, a string move (rep movs, rep stos)
+# counted once, and how many bytes string moves moved. A run's start-up is in both: subtract another run's.
+[ $# -ge 1 ] || { sed -n 2,3p "$0"; exit 2; }
+program=$1
+in=${2:-/dev/null}
+machine=$(uname -m)
+fail() {
+    echo "count: $*" >&2
+    exit 1
+}
+[ -x "$program" ] || fail "no program $program"
+
+# The kit's tools beside its documents: on Arm an emulator, with the loader and the C library of x86-64.
+tools=$(dirname "$(dirname "$(rt doc)")")/on/$machine/toolchain
+emulator=$tools/bin/qemu-x86_64
+[ -x "$emulator" ] || emulator=$(command -v qemu-x86_64)
+if [ "$machine" = x86_64 ]; then
+    set -- "$program"
+else
+    set -- "$tools/lib/ld-linux-x86-64.so.2" --library-path "$tools/lib" "$program"
+fi
+
+if [ -z "$emulator" ]; then
+    [ "$machine" = x86_64 ] || fail "no qemu-x86_64, in the kit or on the PATH: nothing here runs an x86-64 program"
+    command -v valgrind >/dev/null || fail "neither qemu-x86_64 nor valgrind is on the PATH: nothing here counts instructions"
+    echo "count: by valgrind, for want of qemu-x86_64: each turn of a string move counts, and its bytes are not told apart" >&2
+    n=$(valgrind --tool=callgrind --callgrind-out-file=/dev/null "$@" <"$in" 2>&1 >/dev/null | sed -n 's/.*Collected : *//p')
+    [ -n "$n" ] || fail "valgrind counted nothing"
+    echo "$n -"
+    exit
+fi
+
+# One line an instruction, 'Trace 0: HOST [00000000/PC/FLAGS/..]', and by the million: through a pipe, not a file.
+dir=$(mktemp -d) || exit 1
+trap 'rm -rf "$dir"' EXIT
+mkfifo "$dir/trace" || exit 1
+# A string move of bytes is traced once a byte: the same PC again and again.
+awk -F/ '/^Trace/ {
+        if ($2 != last) { n++; turns = 0 } else { bytes += turns ? 1 : 2; turns = 1 }
+        last = $2
+    }
+    END { printf "%d %d\n", n, bytes }' "$dir/trace" >"$dir/counts" &
+reader=$!
+# An empty environment: it lies on the stack, whose place decides how a move is cut up.
+env -i "$emulator" -one-insn-per-tb -d nochain,exec -D "$dir/trace" "$@" <"$in" >/dev/null || {
+    # it may wait for a trace that never comes
+    kill "$reader" 2>/dev/null
+    fail "the emulator did not run $program"
+}
+wait "$reader"
+read -r n bytes <"$dir/counts"
+[ "$n" -gt 0 ] || fail "the emulator traced nothing"
+echo "$n $bytes"
