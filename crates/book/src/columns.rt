@@ -1,10 +1,12 @@
 // Columns: how an order stands at a place, and storing, clearing and finding one.
 use crate::Book;
+use crate::places::WORD_PLACES;
 use crate::places::bit_of;
 use crate::places::marked;
 use crate::places::unmarked;
 use terms::Limit;
 use terms::Order;
+use terms::Place;
 use terms::Side;
 use terms::Validity;
 ghost use mathlib.Core.Path.{_≡_};
@@ -112,13 +114,13 @@ pub fn place_of<'a>(
     ensures { λ r. ⌜ r ≡ placeIn (now (taken .entry)) (now (numbers .entry)) (now (members .entry)) number member 0 512 ⌝ }
 {
     let mut place: usize = 0;
-    while place < 512 {
+    while place < Place::COUNT {
         if (numbers[place] == number) & (members[place] == member) {
-            if bit_of(taken[place / 64], place % 64) == 1 {
+            if bit_of(taken[place / WORD_PLACES], place % WORD_PLACES) == 1 {
                 return place;
             }
         }
         place += 1;
     }
-    512
+    Place::COUNT
 }

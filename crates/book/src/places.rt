@@ -1,8 +1,14 @@
 // Places: a place is taken where its bit is 1. Trailing zeros pick the lowest free place, ones count the taken ones.
+use terms::Place;
 ghost use mathlib.Core.Path.{_≡_};
 ghost use Prim.Native.Nat.{_<_, _≤_};
 ghost use Rattle.book.specs.Places.{bit, total, lowestFree, countTaken, withBit, withoutBit, marked as Places·marked, unmarked as Places·unmarked};
 ghost use Rattle.book.specs.Words.{LowClear};
+
+// Eight words of 64 places each.
+const WORDS: usize = 8;
+
+pub const WORD_PLACES: usize = 64;
 
 // The bit k of a word.
 pub fn bit_of(word: u64, k: usize) -> u64
@@ -30,14 +36,14 @@ pub fn lowest_free(taken: [u64; 8]) -> usize
     ensures { λ r. ⌜ r ≡ lowestFree taken ⌝ }
 {
     let mut j: usize = 0;
-    while j < 8 {
+    while j < WORDS {
         let z = low_clear(taken[j]);
-        if z < 64 {
-            return j * 64 + z;
+        if z < WORD_PLACES {
+            return j * WORD_PLACES + z;
         }
         j += 1;
     }
-    512
+    Place::COUNT
 }
 
 pub fn count_taken(taken: [u64; 8]) -> usize
@@ -45,7 +51,7 @@ pub fn count_taken(taken: [u64; 8]) -> usize
 {
     let mut n: usize = 0;
     let mut j: usize = 0;
-    while j < 8 {
+    while j < WORDS {
         n += set_bits(taken[j]);
         j += 1;
     }
@@ -78,8 +84,8 @@ pub fn marked(mut taken: [u64; 8], place: usize) -> [u64; 8]
     requires { ⌜ place < 512 ⌝ }
     ensures { λ r. ⌜ r ≡ Places·marked taken place ⌝ }
 {
-    let j = place / 64;
-    taken[j] = with_bit(taken[j], place % 64);
+    let j = place / WORD_PLACES;
+    taken[j] = with_bit(taken[j], place % WORD_PLACES);
     taken
 }
 
@@ -87,7 +93,7 @@ pub fn unmarked(mut taken: [u64; 8], place: usize) -> [u64; 8]
     requires { ⌜ place < 512 ⌝ }
     ensures { λ r. ⌜ r ≡ Places·unmarked taken place ⌝ }
 {
-    let j = place / 64;
-    taken[j] = without_bit(taken[j], place % 64);
+    let j = place / WORD_PLACES;
+    taken[j] = without_bit(taken[j], place % WORD_PLACES);
     taken
 }
