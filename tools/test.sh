@@ -24,6 +24,6 @@ rm -f "$log.status"
 [ "$status" -eq 0 ] || exit "$status"
 
 # An edit that only makes a proof unfit for the code shows nothing.
-unfit=$(grep -rl 'can be named from here' target/must-fail --include=.log 2>/dev/null)
+unfit=$(grep -rlE 'can be named from here|expected type `tie\.Need-' target/must-fail --include=.log 2>/dev/null)
 [ -z "$unfit" ] || fail "must-fail edits refused by the proof's shape: $unfit"
 tail -n 1 "$log"

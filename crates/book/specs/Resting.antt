@@ -24,24 +24,32 @@ restingTo b (suc n) = restingTo b n ++ restingAt b n
 abbrev pub resting : Book → List Order
 resting b = restingTo b places
 
--- the least place below n whose resting order passes the test, or n
+-- this place, or what is found later
 abbrev pub firstOr : Bool → ℕ → ℕ → ℕ
 firstOr true found later = found
 firstOr false found later = later
 
+-- the first of n places from one on whose resting order passes the test, or the place behind them
 unfoldable pub findFrom : (Order → Bool) → Book → ℕ → ℕ → ℕ
 findFrom f b place zero = place
 findFrom f b place (suc n) = firstOr (isTaken (b .taken) place && f (orderAt b place)) place (findFrom f b (suc place) n)
 
--- .. over the columns: the least of n places from one on that is taken and has this number and this member
+-- the place of the first resting order that passes the test, or 512
+abbrev pub placeOf : (Order → Bool) → Book → ℕ
+placeOf f b = findFrom f b 0 places
+
+-- an order of this number and this member
+abbrev pub isOf : ℕ → ℕ → Order → Bool
+isOf number member o = eqb (o .number) number && eqb (o .member) member
+
+-- .. over the columns: the place is taken and has this number and this member
+abbrev pub isSought : List ℕ → List ℕ → List ℕ → ℕ → ℕ → ℕ → Bool
+isSought taken numbers members number member place = isTaken taken place && (eqb (getD numbers place 0) number && eqb (getD members place 0) member)
+
 unfoldable pub placeIn : List ℕ → List ℕ → List ℕ → ℕ → ℕ → ℕ → ℕ → ℕ
 placeIn taken numbers members number member place zero = place
 placeIn taken numbers members number member place (suc n) =
-    firstOr (isTaken taken place && (eqb (getD numbers place 0) number && eqb (getD members place 0) member)) place
-    (placeIn taken numbers members number member (suc place) n)
-
-abbrev pub placeOf : (Order → Bool) → Book → ℕ
-placeOf f b = findFrom f b 0 places
+    firstOr (isSought taken numbers members number member place) place (placeIn taken numbers members number member (suc place) n)
 
 -- what a place holds after a change: the order that is left there, or nothing
 abbrev pub putBack : Book → ℕ → Option Order → Book
@@ -61,14 +69,11 @@ changed change b = changedTo change b places
 
 -- one place on: this one is it, or it is further on, or there are no more
 module _ (taken numbers members : List ℕ) (number member place : ℕ) where
-  abbrev pub isSought : Bool
-  isSought = isTaken taken place && (eqb (getD numbers place 0) number && eqb (getD members place 0) member)
-
-  pub place-in-hit : (n : ℕ) → isSought ≡ true → placeIn taken numbers members number member place (suc n) ≡ place
+  pub place-in-hit : (n : ℕ) → isSought taken numbers members number member place ≡ true → placeIn taken numbers members number member place (suc n) ≡ place
   unfolding placeIn
   place-in-hit n h = rw h
 
-  pub place-in-miss : (n : ℕ) → isSought ≡ false
+  pub place-in-miss : (n : ℕ) → isSought taken numbers members number member place ≡ false
       → placeIn taken numbers members number member place (suc n) ≡ placeIn taken numbers members number member (suc place) n
   unfolding placeIn
   place-in-miss n h = rw h
@@ -79,11 +84,11 @@ module _ (taken numbers members : List ℕ) (number member place : ℕ) where
 
 -- the columns say what the orders say
 place-in-from : (b : Book) (number member n place : ℕ)
-    → placeIn (b .taken) (b .number) (b .member) number member place n ≡ findFrom (λ o. eqb (o .number) number && eqb (o .member) member) b place n
+    → placeIn (b .taken) (b .number) (b .member) number member place n ≡ findFrom (isOf number member) b place n
 unfolding placeIn findFrom
 place-in-from b number member zero place = refl
 place-in-from b number member (suc n) place = rw (place-in-from b number member n (suc place))
 
 pub place-in : (b : Book) (number member : ℕ)
-    → placeIn (b .taken) (b .number) (b .member) number member 0 places ≡ placeOf (λ o. eqb (o .number) number && eqb (o .member) member) b
+    → placeIn (b .taken) (b .number) (b .member) number member 0 places ≡ placeOf (isOf number member) b
 place-in b number member = place-in-from b number member places 0

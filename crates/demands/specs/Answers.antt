@@ -14,14 +14,14 @@ use Rattle.terms.specs.Parameters.{areParameters}
 use Rattle.terms.specs.declared.orders.{Side.Side, SideMade.SideMade, Entry.Entry}
 use Rattle.terms.specs.declared.parameters.{Parameters.Parameters}
 use Rattle.book.specs.Places.{countTaken}
-use Rattle.book.specs.Resting.{resting}
+use Rattle.book.specs.Resting.{resting, isOf}
 use Rattle.session.specs.declared.{Session.Session, Started.Started, Entered.Entered, Deleted.Deleted}
 use Rattle.session.specs.Phases.{hasStarted, allowsOrder}
 use Rattle.session.specs.Controls.{offStep, reachesCollar, reachesMost, reachesMostAtReference}
 use Rattle.session.specs.Checks.{Check, firstHit}
 use Rattle.session.specs.Exactly.{ruleOf, earlier, NoneHit, wellNumbered, none-hit, given-exactly-when}
 use Rattle.session.specs.Queues.{FrontAnswer, frontChecks, frontAnswer, filledFront, front-side}
-use Rattle.session.specs.Entry.{freshSession, startChecks, startAnswer, started, orderChecks, orderAnswer, entered, deleteChecks, deleteAnswer, deleted, isOf}
+use Rattle.session.specs.Entry.{freshSession, startChecks, startAnswer, started, orderChecks, orderAnswer, entered, deleteChecks, deleteAnswer, deleted}
 
 -- A2. Any two outcomes that a promise allows are equal.
 pub record OneAnswer : Type 0 where

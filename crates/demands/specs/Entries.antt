@@ -14,13 +14,13 @@ use Rattle.book.specs.Places.{isTaken, lowestFree, countTaken, total}
 use Rattle.book.specs.Words.{lowest-free-clear, lowest-free-least, count-is-taken}
 use Rattle.book.specs.Columns.{orderFrom, orderAt}
 use Rattle.book.specs.Changes.{stored-order, stored-elsewhere}
-use Rattle.book.specs.Resting.{resting, placeOf}
+use Rattle.book.specs.Resting.{resting, placeOf, isOf}
 use Rattle.book.specs.Rests.{place-found}
 use Rattle.book.specs.Sound.{legal-limit}
 use Rattle.book.specs.Additions.{stored-resting, cleared-resting}
 use Rattle.session.specs.declared.{Session.Session}
 use Rattle.session.specs.Checks.{firstHit}
-use Rattle.session.specs.Entry.{orderChecks, entered, enteredSession, deleteChecks, deleted, deletedSession, isOf}
+use Rattle.session.specs.Entry.{orderChecks, entered, enteredSession, deleteChecks, deleted, deletedSession}
 use Rattle.session.specs.Sound.{Sound, accepted, asked-sound}
 use Rattle.session.specs.Calls.{delete-room}
 

@@ -12,11 +12,11 @@ use Rattle.terms.specs.declared.orders.{Order.Order, OrderMade.OrderMade, Entry
 use Rattle.book.specs.declared.Book.{Book}
 use Rattle.book.specs.Places.{lowestFree}
 use Rattle.book.specs.Columns.{stored, cleared}
-use Rattle.book.specs.Resting.{placeOf, placeIn, place-in}
+use Rattle.book.specs.Resting.{placeOf, isOf, placeIn, place-in}
 use Rattle.book.specs.Rests.{any-resting}
 use Rattle.session.specs.declared.{Session.Session}
 use Rattle.session.specs.Checks.{firstHit}
-use Rattle.session.specs.Entry.{orderChecks, orderAnswer, entered, order-refused, deleteRows, deleteChecks, deleteAnswer, deleted, delete-refused, isOf}
+use Rattle.session.specs.Entry.{orderChecks, orderAnswer, entered, order-refused, deleteRows, deleteChecks, deleteAnswer, deleted, delete-refused}
 use Rattle.session.specs.Exactly.{none-hit}
 use Rattle.session.specs.Sound.{accepted, found-place}
 

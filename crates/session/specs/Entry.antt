@@ -10,12 +10,12 @@ use Rattle.terms.specs.Bounds.{places, maxNumber}
 use Rattle.terms.specs.Kinds.{isNumber, isMember}
 use Rattle.terms.specs.Orders.{isEntry, orderOf}
 use Rattle.terms.specs.Parameters.{areParameters}
-use Rattle.terms.specs.declared.orders.{Order.Order, OrderMade.OrderMade, Entry.Entry}
+use Rattle.terms.specs.declared.orders.{OrderMade.OrderMade, Entry.Entry}
 use Rattle.terms.specs.declared.parameters.{Parameters.Parameters}
 use Rattle.book.specs.declared.Book.{Book}
 use Rattle.book.specs.Places.{lowestFree, countTaken}
 use Rattle.book.specs.Columns.{emptyBook, stored, cleared}
-use Rattle.book.specs.Resting.{resting, placeOf}
+use Rattle.book.specs.Resting.{resting, placeOf, isOf}
 use Rattle.session.specs.declared.{Session.Session, Phase.Phase, Started.Started, Entered.Entered, Deleted.Deleted, Phase.the-variants.Fresh, Phase.the-variants.PreOpening}
 use Rattle.session.specs.Phases.{hasStarted, allowsOrder}
 use Rattle.session.specs.Checks.{check, Check, firstHit}
@@ -94,9 +94,6 @@ unfoldable pub entered : Session → Entry → Entered
 entered s e = orderAnswer (firstHit (orderChecks s e)) s e
 
 -- Delete: 1, 2, 11.
-abbrev pub isOf : ℕ → ℕ → Order → Bool
-isOf number member o = eqb (o .number) number && eqb (o .member) member
-
 abbrev pub deleteRows : Phase → ℕ → ℕ → Bool → List Check
 deleteRows phase number member absent =
     check 1 (not (isNumber number && isMember member))

@@ -16,7 +16,7 @@ use Rattle.terms.specs.declared.orders.{Limit.Limit, Limit.the-variants.Unlimit
 use Rattle.terms.specs.declared.parameters.{Parameters.Parameters}
 use Rattle.book.specs.Places.{lowestFree, countTaken}
 use Rattle.book.specs.Words.{lowest-free-room}
-use Rattle.book.specs.Resting.{resting, placeOf}
+use Rattle.book.specs.Resting.{resting, placeOf, isOf}
 use Rattle.book.specs.Rests.{any-resting}
 use Rattle.book.specs.Sound.{SoundOrder, SoundBook, empty-sound, stored-sound, cleared-sound}
 use Rattle.session.specs.declared.{Session.Session, Phase.Phase, Phase.the-variants.Fresh, Phase.the-variants.PreOpening, Phase.the-variants.Day, Phase.the-variants.Closed}
@@ -24,7 +24,7 @@ use Rattle.session.specs.Phases.{hasStarted}
 use Rattle.session.specs.Checks.{firstHit}
 use Rattle.session.specs.Exactly.{none-hit}
 use Rattle.session.specs.Controls.{offStep}
-use Rattle.session.specs.Entry.{freshSession, started, startAnswer, startChecks, entered, orderAnswer, orderChecks, deleted, deleteAnswer, deleteChecks, isOf}
+use Rattle.session.specs.Entry.{freshSession, started, startAnswer, startChecks, entered, orderAnswer, orderChecks, deleted, deleteAnswer, deleteChecks}
 
 pub record Sound (s : Session) : Type 0 where
   -- a session that has not started is the fresh one
