@@ -4,6 +4,10 @@ pub mod Pairing
 pub mod Fills
 pub mod Outcome
 pub mod After
+pub mod Decided
+pub mod Written
+pub mod Fronts
+pub mod Settled
 pub mod Left
 pub mod NonOpening
 pub mod Examples

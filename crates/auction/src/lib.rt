@@ -1,4 +1,11 @@
-// The auction: outcome, trades and what is left (01 "Outcomes"). Its definitions are in specs/; the code comes later.
+// The auction: outcome, trades and what is left (01 "Outcomes").
+mod after;
+mod outcome;
+mod pairing;
+
+pub use after::settled;
+pub use outcome::outcome_of;
+pub use pairing::pair;
 
 // A trade at the auction price; buy and sell are the orders' numbers.
 pub struct Trade {

@@ -4,8 +4,10 @@ mod columns;
 mod places;
 
 pub use columns::place_of;
+pub use places::bit_of;
 pub use places::count_taken;
 pub use places::lowest_free;
+pub use places::unmarked;
 
 pub struct Book {
     pub taken: [u64; 8],

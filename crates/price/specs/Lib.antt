@@ -3,5 +3,6 @@ pub mod Interest
 pub mod Candidates
 pub mod Chain
 pub mod Legal
+pub mod Search
 pub mod Examples
 pub mod Clause7

@@ -1,2 +1,6 @@
 // The price: interest of a side at a price, executable quantity, candidates and the chain (01 "The price").
-// Its definitions are in specs/; the search comes with the auction.
+mod search;
+
+pub use search::Found;
+pub use search::searched;
+pub use search::sum_below;

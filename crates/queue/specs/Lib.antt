@@ -3,6 +3,8 @@ pub mod Part
 pub mod Sides
 pub mod Distinct
 pub mod Rank
+pub mod Ranks
 pub mod Fill
+pub mod Shares
 pub mod Front
 pub mod Examples

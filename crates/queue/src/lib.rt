@@ -1,22 +1,13 @@
 // The queue: who takes part, at what rank, and how a total is filled from the front
-// (01 "Who takes part, and at what rank"). The ranked queue's code comes with the auction.
-ghost use mathlib.Core.Path.{_≡_};
-ghost use lib.ListN.{length};
-ghost use Rattle.queue.specs.Front.{front};
+// (01 "Who takes part, and at what rank").
+mod front;
+mod ranks;
+mod shares;
 
-// How many entries the longest front part has whose sum is at most the total. What is left of the total is kept, so that no sum can wrap.
-pub fn front_length(entries: &[u64], total: u64) -> usize
-    ensures { λ r. ⌜ r ≡ length (front total (now (entries .entry))) ⌝ }
-{
-    let mut rest = total;
-    let mut i: usize = 0;
-    while i < entries.len() {
-        let x = entries[i];
-        if rest < x {
-            return i;
-        }
-        rest -= x;
-        i += 1;
-    }
-    i
-}
+pub use front::front_length;
+pub use ranks::rank_bound;
+pub use ranks::ranked;
+pub use shares::lessen;
+pub use shares::place_of_rank;
+pub use shares::share_out;
+pub use shares::sum_up;

@@ -79,6 +79,9 @@ impl DelayThreshold {
 
     pub const MAX: u16 = 9_999;
 
+    // Hundredths of a percent in the whole.
+    pub const WHOLE: u64 = 10_000;
+
     pub fn holds(x: u16) -> bool
         ensures { λ r. ⌜ r ≡ isThreshold x ⌝ }
     {

@@ -5,8 +5,8 @@ use native.Mathlib.Omega.{arith}
 use borrow.Author.Needs.{needs}
 use lib.ListN.{length, drop}
 use Rattle.queue.specs.Front.{front, front-stop, front-more, front-end}
-use Rattle.queue.proofs.front_length.Statement.{statement}
-use Rattle.queue.proofs.front_length.Tie as tie
+use Rattle.queue.proofs.front.front_length.Statement.{statement}
+use Rattle.queue.proofs.front.front_length.Tie as tie
 
 abbrev Inv-loop : tie.InvT-loop
 Inv-loop entries total rest₀ i₀ rest i = (i ≤ length entries) × (length (front total entries) ≡ i + length (front rest (drop i entries)))

@@ -1,0 +1,209 @@
+// The search: the chain over all candidates. Those whose limits allow a price are a front part of the ranked queue, so that
+// what a side offers at a price is a sum of its first orders; every candidate is weighed against the best so far.
+use terms::Limit;
+use terms::Side;
+ghost use mathlib.Core.Path.{_≡_};
+ghost use mathlib.Core.List.{map};
+ghost use Prim.Native.Nat.{_<_, _≤_};
+ghost use lib.Dec.{leb};
+ghost use lib.ListN.{length, getD};
+ghost use Rattle.lists.specs.Sums.{apart as Sums·apart};
+ghost use Rattle.lists.specs.Ranking.{Ranked};
+ghost use Rattle.queue.specs.Ranks.{placeOfRank};
+ghost use Rattle.price.specs.Search.{firstWeighed, joined as Search·joined, weighed, countBelow, sumBelow, offered, weighAll, foundIn, searchedIn};
+ghost use Rattle.terms.specs.declared.orders.{Side.the-variants.Buy, Side.the-variants.Sell};
+
+// What the candidates so far come to: the highest executable quantity, the smallest difference among those that have it, and
+// of those that have both the highest, the lowest and the one nearest to the reference price.
+pub struct Weighed {
+    pub most: u64,
+    pub least: u64,
+    pub high: u32,
+    pub low: u32,
+    pub near: u32,
+}
+
+// The highest executable quantity, and the price that the chain leaves.
+pub struct Found {
+    pub most: u64,
+    pub price: u32,
+}
+
+fn apart(a: u64, b: u64) -> u64
+    ensures { λ r. ⌜ r ≡ Sums·apart a b ⌝ }
+{
+    if a <= b { b - a } else { a - b }
+}
+
+fn first(price: u32, most: u64, least: u64) -> Weighed
+    ensures { λ r. ⌜ r ≡ firstWeighed price most least ⌝ }
+{
+    Weighed {
+        most,
+        least,
+        high: price,
+        low: price,
+        near: price,
+    }
+}
+
+// One more with the same executable quantity and difference.
+fn joined(w: Weighed, reference: u32, price: u32) -> Weighed
+    ensures { λ r. ⌜ r ≡ Search·joined reference price w ⌝ }
+{
+    let high = if w.high < price { price } else { w.high };
+    let low = if price < w.low { price } else { w.low };
+    let nearer = apart(reference as u64, price as u64) < apart(reference as u64, w.near as u64);
+    let near = if nearer { price } else { w.near };
+    Weighed {
+        most: w.most,
+        least: w.least,
+        high,
+        low,
+        near,
+    }
+}
+
+// One more candidate, with demand and supply at it.
+fn weigh(w: Weighed, reference: u32, price: u32, demand: u64, supply: u64) -> Weighed
+    ensures { λ r. ⌜ r ≡ weighed reference price demand supply w ⌝ }
+{
+    let most = if demand <= supply { demand } else { supply };
+    let least = apart(demand, supply);
+    if (w.most < most) | ((most == w.most) & (least < w.least)) {
+        return first(price, most, least);
+    }
+    if (most == w.most) & (least == w.least) {
+        return joined(w, reference, price);
+    }
+    w
+}
+
+// How many ranks are below the bound.
+fn below(ranks: &[u64], bound: u64) -> usize
+    requires { ⌜ Ranked leb (now ranks) ⌝ }
+    ensures { λ r. ⌜ r ≡ countBelow bound (now (ranks .entry)) ⌝ }
+{
+    let mut low: usize = 0;
+    let mut high = ranks.len();
+    while low < high {
+        let middle = low + (high - low) / 2;
+        if ranks[middle] < bound {
+            low = middle + 1;
+        } else {
+            high = middle;
+        }
+    }
+    low
+}
+
+// What the orders with ranks below the bound have open in all; the sums are those of the first 0, 1, 2 .. orders.
+pub fn sum_below<'a>(bound: u64, ranks: &'a [u64], sums: &'a [u64]) -> u64
+    requires { ⌜ Ranked leb (now ranks) × (length (now ranks) < length (now sums)) ⌝ }
+    ensures { λ r. ⌜ r ≡ sumBelow bound (now (ranks .entry)) (now (sums .entry)) ⌝ }
+{
+    sums[below(ranks, bound)]
+}
+
+// What a side offers at a price.
+fn offer<'a>(side: Side, price: u32, ranks: &'a [u64], sums: &'a [u64]) -> u64
+    requires { ⌜ Ranked leb (now ranks) × (length (now ranks) < length (now sums)) ⌝ }
+    ensures { λ r. ⌜ r ≡ offered side (now (ranks .entry)) (now (sums .entry)) price ⌝ }
+{
+    sum_below(queue::rank_bound(side, price), ranks, sums)
+}
+
+// The limits of a queue's orders as candidates, one after the other.
+fn weigh_limits<'a>(
+    start: Weighed,
+    reference: u32,
+    ranks: &'a [u64],
+    limits: &'a [u32; 512],
+    buys: &'a [u64],
+    buy_sums: &'a [u64],
+    sells: &'a [u64],
+    sell_sums: &'a [u64],
+) -> Weighed
+    requires { ⌜ Ranked leb (now buys) × (length (now buys) < length (now «buy_sums»)) × Ranked leb (now sells) × (length (now sells) < length (now «sell_sums»)) ⌝ }
+    ensures { λ r. ⌜ r ≡ weighAll reference (offered Buy (now (buys .entry)) (now («buy_sums» .entry))) (offered Sell (now (sells .entry)) (now («sell_sums» .entry))) (map (λ x. getD (now (limits .entry)) (placeOfRank x) 0) (now (ranks .entry))) start ⌝ }
+{
+    let mut w = start;
+    let mut i: usize = 0;
+    while i < ranks.len() {
+        let limit = limits[queue::place_of_rank(ranks[i])];
+        if limit != Limit::UNLIMITED {
+            let demand = offer(Side::Buy, limit, buys, buy_sums);
+            let supply = offer(Side::Sell, limit, sells, sell_sums);
+            w = weigh(w, reference, limit, demand, supply);
+        }
+        i += 1;
+    }
+    w
+}
+
+// The chain: at the highest of those that are left demand may exceed supply, so that it does at all; likewise at the lowest.
+fn chosen<'a>(
+    w: Weighed,
+    buys: &'a [u64],
+    buy_sums: &'a [u64],
+    sells: &'a [u64],
+    sell_sums: &'a [u64],
+) -> Found
+    requires { ⌜ Ranked leb (now buys) × (length (now buys) < length (now «buy_sums»)) × Ranked leb (now sells) × (length (now sells) < length (now «sell_sums»)) ⌝ }
+    ensures { λ r. ⌜ r ≡ foundIn (offered Buy (now (buys .entry)) (now («buy_sums» .entry))) (offered Sell (now (sells .entry)) (now («sell_sums» .entry))) w ⌝ }
+{
+    let more_demand = offer(Side::Sell, w.high, sells, sell_sums)
+        < offer(Side::Buy, w.high, buys, buy_sums);
+    let more_supply = offer(Side::Buy, w.low, buys, buy_sums)
+        < offer(Side::Sell, w.low, sells, sell_sums);
+    let price = if more_demand {
+        w.high
+    } else if more_supply {
+        w.low
+    } else {
+        w.near
+    };
+    Found {
+        most: w.most,
+        price,
+    }
+}
+
+// The candidates are the reference price and the limits of both queues, given by their ranks with the sums of their open quantities.
+pub fn searched<'a>(
+    reference: u32,
+    limits: &'a [u32; 512],
+    buys: &'a [u64],
+    buy_sums: &'a [u64],
+    sells: &'a [u64],
+    sell_sums: &'a [u64],
+) -> Found
+    requires { ⌜ Ranked leb (now buys) × (length (now buys) < length (now «buy_sums»)) × Ranked leb (now sells) × (length (now sells) < length (now «sell_sums»)) ⌝ }
+    ensures { λ r. ⌜ r ≡ searchedIn reference (offered Buy (now (buys .entry)) (now («buy_sums» .entry))) (offered Sell (now (sells .entry)) (now («sell_sums» .entry))) (map (λ x. getD (now (limits .entry)) (placeOfRank x) 0) (now (buys .entry))) (map (λ x. getD (now (limits .entry)) (placeOfRank x) 0) (now (sells .entry))) ⌝ }
+{
+    let demand = offer(Side::Buy, reference, buys, buy_sums);
+    let supply = offer(Side::Sell, reference, sells, sell_sums);
+    let most = if demand <= supply { demand } else { supply };
+    let alone = first(reference, most, apart(demand, supply));
+    let bid = weigh_limits(
+        alone,
+        reference,
+        buys,
+        limits,
+        buys,
+        buy_sums,
+        sells,
+        sell_sums,
+    );
+    let all = weigh_limits(
+        bid,
+        reference,
+        sells,
+        limits,
+        buys,
+        buy_sums,
+        sells,
+        sell_sums,
+    );
+    chosen(all, buys, buy_sums, sells, sell_sums)
+}
