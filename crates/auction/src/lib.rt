@@ -1,10 +1,10 @@
 // The auction: outcome, trades and what is left (01 "Outcomes").
 mod after;
-mod outcome;
+mod decide;
 mod pairing;
 
 pub use after::settled;
-pub use outcome::outcome_of;
+pub use decide::outcome_of;
 pub use pairing::pair;
 
 // A trade at the auction price; buy and sell are the orders' numbers.
