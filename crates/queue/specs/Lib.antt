@@ -7,4 +7,5 @@ pub mod Ranks
 pub mod Fill
 pub mod Shares
 pub mod Front
+pub mod Over
 pub mod Examples
