@@ -1,10 +1,10 @@
 -- The auction and the theoretical answer: what each call returns and leaves, refusals included.
-use Prim.Native.Nat.{ℕ, zero, suc, _*_}
-use mathlib.Core.Bool.{true, not}
-use mathlib.Core.List.{List, [], _∷_, _++_}
+use Prim.Native.Nat.{ℕ, zero, suc}
+use mathlib.Core.Bool.{true, cond, not}
+use mathlib.Core.List.{List, [], _∷_}
 use lib.Dec.{ltb}
-use lib.ListN.{length, drop}
-use Rattle.terms.specs.Bounds.{tradeListLength, numbersPerTrade}
+use lib.ListN.{length}
+use Rattle.terms.specs.Bounds.{tradeListLength}
 use Rattle.terms.specs.Orders.{isAuction, auctionOf}
 use Rattle.terms.specs.declared.orders.{Auction.Auction, AuctionMade.AuctionMade, Order.Order}
 use Rattle.book.specs.Resting.{resting, changed}
@@ -12,7 +12,8 @@ use Rattle.queue.specs.Part.{takingPart}
 use Rattle.auction.specs.declared.{Trade.Trade, Outcome.Outcome, Outcome.the-variants.Traded, Outcome.the-variants.NoTrade, Outcome.the-variants.NonOpening, Outcome.the-variants.Delayed}
 use Rattle.auction.specs.Outcome.{outcome, trades, outcomeNumber, priceAnswered, quantityAnswered, countAnswered}
 use Rattle.auction.specs.After.{restOf}
-use Rattle.session.specs.declared.{Session.Session, AuctionAnswer.AuctionAnswer, Auctioned.Auctioned, Foreseen.Foreseen}
+use Rattle.auction.specs.Written.{written}
+use Rattle.session.specs.declared.{Phase.Phase, Session.Session, AuctionAnswer.AuctionAnswer, Auctioned.Auctioned, Foreseen.Foreseen}
 use Rattle.session.specs.Phases.{hasStarted, allowsAuction, phaseAfter}
 use Rattle.session.specs.Checks.{check, Check, firstHit}
 
@@ -62,22 +63,21 @@ sessionAfter s a book NoTrade = closedOut s a [] (s .reference)
 sessionAfter s a book NonOpening = s
 sessionAfter s a book (Delayed price quantity) = delayGiven s
 
--- the lent list: buy number, sell number, quantity, price for each trade, from the front; the remainder keeps its contents
-abbrev pub quadruples : ℕ → List Trade → List ℕ
-quadruples price [] = []
-quadruples price (t ∷ ts) = t .buy ∷ t .sell ∷ t .quantity ∷ price ∷ quadruples price ts
-
-abbrev pub written : ℕ → List Trade → List ℕ → List ℕ
-written price ts list = quadruples price ts ++ drop (numbersPerTrade * length ts) list
-
 -- Auction: 1, 2, 4, 12.
-abbrev pub auctionChecks : Session → ℕ → ℕ → List Check
-auctionChecks s which size =
+abbrev pub auctionRows : Phase → ℕ → ℕ → List Check
+auctionRows phase which size =
     check 1 (not (isAuction which))
-    ∷ check 2 (not (hasStarted (s .phase)))
-    ∷ check 4 (not (allowsAuction (s .phase) which))
+    ∷ check 2 (not (hasStarted phase))
+    ∷ check 4 (not (allowsAuction phase which))
     ∷ check 12 (ltb size tradeListLength)
     ∷ []
+
+abbrev pub auctionChecks : Session → ℕ → ℕ → List Check
+auctionChecks s which size = auctionRows (s .phase) which size
+
+-- the checks that the auction and the theoretical answer share, in front of what a later one gives
+abbrev pub auctionRefusal : Phase → ℕ → ℕ → ℕ
+auctionRefusal phase which later = cond (not (isAuction which)) 1 (cond (not (hasStarted phase)) 2 (cond (not (allowsAuction phase which)) 4 later))
 
 -- what the call returns, and the lent list as it leaves it
 pub record AuctionLeaves : Type 0 where
@@ -102,12 +102,15 @@ unfoldable pub auctioned : Session → ℕ → List ℕ → AuctionLeaves
 auctioned s which list = auctionAnswer (firstHit (auctionChecks s which (length list))) (auctionOf which) s list
 
 -- Theoretical answer: 1, 2, 4. The same four numbers with no change.
-abbrev pub theoreticalChecks : Session → ℕ → List Check
-theoreticalChecks s which =
+abbrev pub theoreticalRows : Phase → ℕ → List Check
+theoreticalRows phase which =
     check 1 (not (isAuction which))
-    ∷ check 2 (not (hasStarted (s .phase)))
-    ∷ check 4 (not (allowsAuction (s .phase) which))
+    ∷ check 2 (not (hasStarted phase))
+    ∷ check 4 (not (allowsAuction phase which))
     ∷ []
+
+abbrev pub theoreticalChecks : Session → ℕ → List Check
+theoreticalChecks s which = theoreticalRows (s .phase) which
 
 abbrev pub theoreticalAnswer : ℕ → AuctionMade → Session → Foreseen
 theoreticalAnswer (suc n) which s = record { answer = suc n; result = noAnswer }

@@ -14,19 +14,22 @@ use Rattle.terms.specs.Made.{side-made}
 use Rattle.terms.specs.declared.orders.{Side.Side, Side.the-variants.Buy, Side.the-variants.Sell, SideMade.SideMade, Auction.Auction, AuctionMade.AuctionMade}
 use Rattle.queue.specs.Rank.{ranked}
 use Rattle.queue.specs.Front.{front, front-longest}
-use Rattle.session.specs.declared.{Session.Session, Queued.Queued}
+use Rattle.session.specs.declared.{Phase.Phase, Session.Session, Queued.Queued}
 use Rattle.session.specs.Phases.{hasStarted}
 use Rattle.session.specs.Checks.{check, Check, firstHit}
 use Rattle.session.specs.Exactly.{none-hit}
 use Rattle.session.specs.Auctions.{part}
 
 -- Ranked queue: 1, 2, 12.
-abbrev pub rankedChecks : Session → ℕ → ℕ → ℕ → List Check
-rankedChecks s side which size =
+abbrev pub rankedRows : Phase → ℕ → ℕ → ℕ → List Check
+rankedRows phase side which size =
     check 1 (not (isSide side && isAuction which))
-    ∷ check 2 (not (hasStarted (s .phase)))
+    ∷ check 2 (not (hasStarted phase))
     ∷ check 12 (ltb size places)
     ∷ []
+
+abbrev pub rankedChecks : Session → ℕ → ℕ → ℕ → List Check
+rankedChecks s side which size = rankedRows (s .phase) side which size
 
 -- the order numbers taking part, best first
 abbrev pub rankedNumbers : Session → Side → Auction → List ℕ

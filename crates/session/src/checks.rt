@@ -1,6 +1,7 @@
 // The checks of the calls: 01 "Refusals by number", in its order.
 use crate::Phase;
 use crate::Session;
+use terms::Auction;
 use terms::Entry;
 use terms::Limit;
 use terms::Member;
@@ -13,11 +14,15 @@ use terms::Validity;
 ghost use mathlib.Core.Path.{_≡_};
 ghost use mathlib.Core.Bool.{cond, not};
 ghost use Rattle.terms.specs.Kinds.{isPlace};
-ghost use Rattle.session.specs.Phases.{hasStarted, allowsOrder};
+ghost use Rattle.session.specs.Phases.{hasStarted, allowsOrder, allowsAuction};
 ghost use Rattle.session.specs.Controls.{offStep, reachesCollar, reachesMost};
 ghost use Rattle.session.specs.Checks.{firstHit};
 ghost use Rattle.session.specs.Entry.{orderChecks, deleteRows};
-ghost use Rattle.session.specs.Queues.{frontChecks};
+ghost use Rattle.session.specs.Auctions.{auctionRows, theoreticalRows, auctionRefusal};
+ghost use Rattle.session.specs.Queues.{rankedRows, frontChecks};
+
+// Numbers that an auction asks of the lent list: four for each of at most 511 trades.
+const TRADE_LIST: usize = 4 * (Place::COUNT - 1);
 
 pub fn has_started(phase: Phase) -> bool
     ensures { λ r. ⌜ r ≡ hasStarted phase ⌝ }
@@ -76,6 +81,18 @@ fn reaches_most(most: u64, quantity: u32, limit: Limit) -> bool
     }
 }
 
+// An opening auction only in pre-opening, a closing auction only in day.
+fn allows_auction(phase: Phase, which: u8) -> bool
+    ensures { λ r. ⌜ r ≡ allowsAuction phase which ⌝ }
+{
+    match phase {
+        Phase::Fresh => false,
+        Phase::PreOpening => which == Auction::OPENING,
+        Phase::Day => which == Auction::CLOSING,
+        Phase::Closed => false,
+    }
+}
+
 // A check in front of those that come later.
 fn first_of(hit: bool, number: u8, later: u8) -> u8
     ensures { λ r. ⌜ r ≡ cond hit number later ⌝ }
@@ -112,6 +129,36 @@ pub fn delete_refusal(phase: Phase, number: u32, member: u16, place: usize) -> u
     let r11 = first_of(!Place::holds(place), 11, 0);
     let r2 = first_of(!has_started(phase), 2, r11);
     first_of(!(Number::holds(number) & Member::holds(member)), 1, r2)
+}
+
+// Which refusal a theoretical answer gets, and an auction in front of those that come later; 0 for none.
+fn auction_refusal_or(phase: Phase, which: u8, later: u8) -> u8
+    ensures { λ r. ⌜ r ≡ auctionRefusal phase which later ⌝ }
+{
+    let r4 = first_of(!allows_auction(phase, which), 4, later);
+    let r2 = first_of(!has_started(phase), 2, r4);
+    first_of(!Auction::holds(which), 1, r2)
+}
+
+pub fn theoretical_refusal(phase: Phase, which: u8) -> u8
+    ensures { λ r. ⌜ r ≡ firstHit (theoreticalRows phase which) ⌝ }
+{
+    auction_refusal_or(phase, which, 0)
+}
+
+pub fn auction_refusal(phase: Phase, which: u8, size: usize) -> u8
+    ensures { λ r. ⌜ r ≡ firstHit (auctionRows phase which size) ⌝ }
+{
+    auction_refusal_or(phase, which, first_of(size < TRADE_LIST, 12, 0))
+}
+
+// Which refusal a ranked queue gets, 0 for none.
+pub fn ranked_refusal(phase: Phase, side: u8, which: u8, size: usize) -> u8
+    ensures { λ r. ⌜ r ≡ firstHit (rankedRows phase side which size) ⌝ }
+{
+    let r12 = first_of(size < Place::COUNT, 12, 0);
+    let r2 = first_of(!has_started(phase), 2, r12);
+    first_of(!(Side::holds(side) & Auction::holds(which)), 1, r2)
 }
 
 // Which refusal a filled front gets, 0 for none.
