@@ -8,6 +8,7 @@ pub mod Decided
 pub mod Written
 pub mod Fronts
 pub mod Settled
+pub mod Trading
 pub mod Left
 pub mod NonOpening
 pub mod Examples

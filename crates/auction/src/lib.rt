@@ -2,10 +2,12 @@
 mod after;
 mod decide;
 mod pairing;
+mod trading;
 
-pub use after::settled;
-pub use decide::outcome_of;
-pub use pairing::pair;
+pub use trading::Closed;
+pub use trading::count_trades;
+pub use trading::outcome_now;
+pub use trading::traded;
 
 // A trade at the auction price; buy and sell are the orders' numbers.
 pub struct Trade {

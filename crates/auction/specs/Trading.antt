@@ -1,0 +1,34 @@
+-- An auction from the columns of a book and the ranks of its queues: its outcome, its trades, and what rests at each place.
+use Prim.Native.Nat.{ℕ}
+use mathlib.Core.Bool.{Bool}
+use mathlib.Core.List.{List}
+use Rattle.terms.specs.declared.orders.{Side.Side, Side.the-variants.Buy, Side.the-variants.Sell, Auction.Auction}
+use Rattle.queue.specs.Ranks.{rankBound, along}
+use Rattle.queue.specs.Shares.{sumsFrom, sharesOf, lessened}
+use Rattle.price.specs.Search.{sumBelow, offered, searchedIn}
+use Rattle.auction.specs.declared.{Trade.Trade, Outcome.Outcome}
+use Rattle.auction.specs.Decided.{outcomeFrom}
+use Rattle.auction.specs.Fronts.{pairedShares}
+
+-- the sums of a queue's first orders, and what its orders get of a quantity
+abbrev pub sumsOf : List ℕ → List ℕ → List ℕ
+sumsOf lefts ranks = sumsFrom 0 (along lefts ranks)
+
+abbrev pub sharesIn : ℕ → List ℕ → List ℕ → List ℕ
+sharesIn quantity lefts ranks = sharesOf quantity (along lefts ranks)
+
+-- the unlimited quantity of a queue
+abbrev pub unlimitedIn : Side → List ℕ → List ℕ → ℕ
+unlimitedIn s lefts ranks = sumBelow (rankBound s 0) ranks (sumsOf lefts ranks)
+
+unfoldable pub outcomeIn : Auction → Bool → ℕ → ℕ → List ℕ → List ℕ → List ℕ → List ℕ → Outcome
+outcomeIn a delayed threshold reference limits lefts buys sells =
+    outcomeFrom a delayed threshold reference
+    (searchedIn reference (offered Buy buys (sumsOf lefts buys)) (offered Sell sells (sumsOf lefts sells)) (along limits buys) (along limits sells))
+    (unlimitedIn Buy lefts buys) (unlimitedIn Sell lefts sells)
+
+unfoldable pub tradesIn : ℕ → List ℕ → List ℕ → List ℕ → List ℕ → List Trade
+tradesIn quantity numbers lefts buys sells = pairedShares numbers buys (sharesIn quantity lefts buys) sells (sharesIn quantity lefts sells)
+
+unfoldable pub restsIn : ℕ → List ℕ → List ℕ → List ℕ → List ℕ
+restsIn quantity lefts buys sells = lessened sells (sharesIn quantity lefts sells) (lessened buys (sharesIn quantity lefts buys) lefts)

@@ -1,0 +1,130 @@
+// An auction as a whole, below the session: its outcome, and what it does to the book and to the lent list. Queues are given by
+// their ranks, best first.
+use crate::Outcome;
+use crate::after::settled;
+use crate::decide::outcome_of;
+use crate::pairing::pair;
+use book::Book;
+use terms::Auction;
+use terms::Limit;
+use terms::Side;
+ghost use mathlib.Core.Path.{_≡_};
+ghost use mathlib.Core.List.{_++_};
+ghost use Prim.Native.Nat.{_*_, _≤_};
+ghost use lib.Dec.{leb};
+ghost use lib.ListN.{length, drop};
+ghost use Rattle.lists.specs.Ranking.{Ranked};
+ghost use Rattle.auction.specs.Settled.{settled as Settled·settled};
+ghost use Rattle.auction.specs.Written.{quadruples};
+ghost use Rattle.auction.specs.Trading.{outcomeIn, tradesIn, restsIn};
+
+// The book after an auction, and how many trades there were.
+pub struct Closed {
+    pub book: Book,
+    pub count: u32,
+}
+
+pub fn outcome_now<'a>(
+    auction: Auction,
+    delayed: bool,
+    threshold: u16,
+    reference: u32,
+    limits: &'a [u32; 512],
+    lefts: &'a [u32; 512],
+    buys: &'a [u64],
+    sells: &'a [u64],
+) -> Outcome
+    requires { ⌜ Ranked leb (now buys) × (length (now buys) ≤ 512) × Ranked leb (now sells) × (length (now sells) ≤ 512) ⌝ }
+    ensures { λ r. ⌜ r ≡ outcomeIn auction delayed threshold reference (now (limits .entry)) (now (lefts .entry)) (now (buys .entry)) (now (sells .entry)) ⌝ }
+{
+    let mut buy_room = [0u64; 513];
+    let mut sell_room = [0u64; 513];
+    queue::sum_up(buys, lefts, &mut buy_room);
+    queue::sum_up(sells, lefts, &mut sell_room);
+    let buy_sums = &buy_room[..buys.len() + 1];
+    let sell_sums = &sell_room[..sells.len() + 1];
+    let found = price::searched(reference, limits, buys, buy_sums, sells, sell_sums);
+    let unlimited_buys = price::sum_below(
+        queue::rank_bound(Side::Buy, Limit::UNLIMITED),
+        buys,
+        buy_sums,
+    );
+    let unlimited_sells = price::sum_below(
+        queue::rank_bound(Side::Sell, Limit::UNLIMITED),
+        sells,
+        sell_sums,
+    );
+    outcome_of(
+        auction,
+        delayed,
+        threshold,
+        reference,
+        found,
+        unlimited_buys,
+        unlimited_sells,
+    )
+}
+
+// How many trades a quantity makes.
+pub fn count_trades<'a>(
+    quantity: u64,
+    numbers: &'a [u32; 512],
+    lefts: &'a [u32; 512],
+    buys: &'a [u64],
+    sells: &'a [u64],
+) -> u32
+    requires { ⌜ (length (now buys) ≤ 512) × (length (now sells) ≤ 512) ⌝ }
+    ensures { λ r. ⌜ r ≡ length (tradesIn quantity (now (numbers .entry)) (now (lefts .entry)) (now (buys .entry)) (now (sells .entry))) ⌝ }
+{
+    let mut bought = [0u32; 512];
+    let mut sold = [0u32; 512];
+    let bids = queue::share_out(quantity, buys, lefts, &mut bought);
+    let asks = queue::share_out(quantity, sells, lefts, &mut sold);
+    let mut unwritten = [0u32; 1];
+    let count = pair(
+        &mut unwritten,
+        0,
+        numbers,
+        buys,
+        &bought[..bids],
+        sells,
+        &sold[..asks],
+    );
+    count as u32
+}
+
+// The trades of a quantity at a price, written to the list; the book is settled after them.
+pub fn traded(
+    b: Book,
+    auction: Auction,
+    price: u32,
+    quantity: u64,
+    buys: &[u64],
+    sells: &[u64],
+    list: &mut [u32],
+) -> Closed
+    requires { ⌜ (length (now buys) ≤ 512) × (length (now sells) ≤ 512) ⌝ }
+    ensures { λ r. ⌜ (r .count ≡ length (tradesIn quantity (b .number) (b .left) (now (buys .entry)) (now (sells .entry)))) × (r .book ≡ Settled·settled auction (restsIn quantity (b .left) (now (buys .entry)) (now (sells .entry))) b) × (4 * r .count ≤ length (now (list .entry)) → now (list .exit) ≡ quadruples price (tradesIn quantity (b .number) (b .left) (now (buys .entry)) (now (sells .entry))) ++ drop (4 * r .count) (now (list .entry))) ⌝ }
+{
+    let mut bought = [0u32; 512];
+    let mut sold = [0u32; 512];
+    let bids = queue::share_out(quantity, buys, &b.left, &mut bought);
+    let asks = queue::share_out(quantity, sells, &b.left, &mut sold);
+    let count = pair(
+        list,
+        price,
+        &b.number,
+        buys,
+        &bought[..bids],
+        sells,
+        &sold[..asks],
+    );
+    let mut rests = b.left;
+    queue::lessen(&mut rests, buys, &bought[..bids]);
+    queue::lessen(&mut rests, sells, &sold[..asks]);
+    let book = settled(b, auction, &rests);
+    Closed {
+        book,
+        count: count as u32,
+    }
+}
