@@ -3,6 +3,7 @@ use crate::Outcome;
 use price::Found;
 use terms::Auction;
 use terms::DelayThreshold;
+use terms::OrderValue;
 ghost use mathlib.Core.Path.{_≡_};
 ghost use Rattle.auction.specs.Outcome.{reaches as Outcome·reaches, delays as Outcome·delays};
 ghost use Rattle.auction.specs.Decided.{preventedBy, outcomeFrom};
@@ -16,7 +17,7 @@ fn reaches(threshold: u16, reference: u32, price: u32) -> bool
     } else {
         price - reference
     };
-    threshold as u64 * reference as u64 <= apart as u64 * DelayThreshold::WHOLE
+    OrderValue::of(threshold as u32, reference) <= apart as u64 * DelayThreshold::WHOLE
 }
 
 // Delayed Opening: no delay has been given yet, and the price reaches the threshold; a closing is never delayed.

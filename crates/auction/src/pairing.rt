@@ -1,11 +1,12 @@
 // The trades: the two queues' shares paired from the front, each trade the smaller of the two (01 "Outcomes").
+ghost use mathlib.Core.Bool.{_&&_};
 ghost use mathlib.Core.Path.{_≡_};
-ghost use mathlib.Core.List.{_∷_, [], _++_, map};
-ghost use Prim.Native.Nat.{_+_, _-_, _*_, _<_, _≤_, min};
-ghost use lib.ListN.{length, getD, take, drop};
-ghost use Rattle.queue.specs.Ranks.{placeOfRank};
+ghost use mathlib.Core.List.{_∷_, [], _++_};
+ghost use Prim.Native.Nat.{_+_, _*_, _<_, _≤_, min};
+ghost use lib.Dec.{ltb};
+ghost use lib.ListN.{length, getD, drop};
 ghost use Rattle.auction.specs.Written.{quadruples, wrote};
-ghost use Rattle.auction.specs.Fronts.{advancedTo, pairedShares};
+ghost use Rattle.auction.specs.Fronts.{advancedTo, numbersOf, pairedShares};
 
 // Numbers of the lent list for each trade: buy number, sell number, quantity, price.
 const NUMBERS: usize = 4;
@@ -59,6 +60,22 @@ fn write_trade(list: &mut [u32], k: usize, buy: u32, sell: u32, quantity: u32, p
     }
 }
 
+// The number of a queue's order.
+fn number_at<'a>(numbers: &'a [u32; 512], ranks: &'a [u64], i: usize) -> u32
+    requires { ⌜ i < length (now ranks) ⌝ }
+    ensures { λ r. ⌜ r ≡ getD (numbersOf (now (numbers .entry)) (now (ranks .entry))) i 0 ⌝ }
+{
+    let place = queue::place_of_rank(ranks[i]);
+    numbers[place]
+}
+
+// Neither queue is at its end.
+fn going(b: usize, bought: usize, s: usize, sold: usize) -> bool
+    ensures { λ r. ⌜ r ≡ (ltb b bought && ltb s sold) ⌝ }
+{
+    (b < bought) & (s < sold)
+}
+
 // The trades of two queues, given by ranks and shares, written from the front of a list as far as it has room; how many.
 pub fn pair<'a>(
     list: &mut [u32],
@@ -81,10 +98,10 @@ pub fn pair<'a>(
         left: share_at(sold, 0),
     };
     let mut k: usize = 0;
-    while (b.at < bought.len()) & (s.at < sold.len()) {
+    while going(b.at, bought.len(), s.at, sold.len()) {
         let q = least(b.left, s.left);
-        let buy = numbers[queue::place_of_rank(buys[b.at])];
-        let sell = numbers[queue::place_of_rank(sells[s.at])];
+        let buy = number_at(numbers, buys, b.at);
+        let sell = number_at(numbers, sells, s.at);
         write_trade(list, k, buy, sell, q, price);
         b = advanced(b, q, bought);
         s = advanced(s, q, sold);

@@ -4,8 +4,11 @@ pub mod Sides
 pub mod Distinct
 pub mod Rank
 pub mod Ranks
+pub mod Insertion
+pub mod Placing
 pub mod Fill
 pub mod Shares
+pub mod Shared
 pub mod Front
 pub mod Over
 pub mod Examples

@@ -14,6 +14,14 @@ pub fn place_of_rank(r: u64) -> usize
     (r % Place::COUNT as u64) as usize
 }
 
+// What the order of a rank has open.
+fn left_at(lefts: &[u32; 512], r: u64) -> u32
+    ensures { λ q. ⌜ q ≡ getD (now (lefts .entry)) (placeOfRank r) 0 ⌝ }
+{
+    let place = place_of_rank(r);
+    lefts[place]
+}
+
 fn least(total: u64, left: u32) -> u32
     ensures { λ r. ⌜ r ≡ min total left ⌝ }
 {
@@ -40,8 +48,7 @@ pub fn sum_up<'a>(ranks: &'a [u64], lefts: &'a [u32; 512], sums: &mut [u64])
     let mut i: usize = 0;
     sums[0] = 0;
     while i < ranks.len() {
-        let place = place_of_rank(ranks[i]);
-        total += lefts[place] as u64;
+        total += left_at(lefts, ranks[i]) as u64;
         i += 1;
         sums[i] = total;
     }
@@ -58,8 +65,7 @@ pub fn share_out<'a>(total: u64, ranks: &'a [u64], lefts: &'a [u32; 512], list: 
         if rest == 0 {
             return i;
         }
-        let place = place_of_rank(ranks[i]);
-        let share = least(rest, lefts[place]);
+        let share = least(rest, left_at(lefts, ranks[i]));
         list[i] = share;
         rest -= share as u64;
         i += 1;

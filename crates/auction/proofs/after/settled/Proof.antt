@@ -1,0 +1,134 @@
+-- The loop's invariant: the places before the one reached are settled.
+use borrow.Author.Needs.{needs}
+use borrow.Author.Tests.{ne-eqb}
+use Prim.Native.Nat.{_+_, _-_, _≤_}
+use mathlib.Core.Logic.{⊎-elim}
+use mathlib.Core.Path.{_≡_, _∙_}
+use native.Mathlib.Omega.{arith}
+use Rattle.auction.specs.Settled.{settledTo, settled-clear, settled-keep, settled-free}
+use Rattle.auction.proofs.after.settled.Statement.{statement}
+use Rattle.auction.proofs.after.settled.Tie as tie
+
+abbrev Inv-loop : tie.InvT-loop
+Inv-loop auction rests b₀ place₀ b place = (place ≤ 512) × (b ≡ settledTo auction rests b₀ place)
+
+abbrev μ-loop : tie.MeasureT-loop
+μ-loop auction rests b₀ place₀ b place = 512 - place
+
+loop-holds : tie.Need-loop-holds Inv-loop μ-loop
+unfolding settledTo
+loop-holds c = search needs
+
+mul-word : tie.Need-mul-word Inv-loop μ-loop
+mul-word c = search needs
+
+element-copy-out-word : tie.Need-element-copy-out-word Inv-loop μ-loop
+element-copy-out-word c = search needs
+
+bit-of-requires : tie.Need-bit-of-requires Inv-loop μ-loop
+bit-of-requires c κs = search needs
+
+mul-rest : tie.Need-mul-rest Inv-loop μ-loop
+mul-rest c = search needs
+
+element-copy-out-rest : tie.Need-element-copy-out-rest Inv-loop μ-loop
+element-copy-out-rest c = search needs
+
+element-copy-out-ends : tie.Need-element-copy-out-ends Inv-loop μ-loop
+element-copy-out-ends c = search needs
+
+ends-requires : tie.Need-ends-requires Inv-loop μ-loop
+ends-requires c κs = search needs
+
+unmarked-requires : tie.Need-unmarked-requires Inv-loop μ-loop
+unmarked-requires c κs = search needs
+
+mul-b : tie.Need-mul-b Inv-loop μ-loop
+mul-b c = search needs
+
+element-write-b : tie.Need-element-write-b Inv-loop μ-loop
+element-write-b c = search needs
+
+mul-b-2 : tie.Need-mul-b-2 Inv-loop μ-loop
+mul-b-2 c = search needs
+
+element-write-b-2 : tie.Need-element-write-b-2 Inv-loop μ-loop
+element-write-b-2 c = search needs
+
+element-write-b-3 : tie.Need-element-write-b-3 Inv-loop μ-loop
+element-write-b-3 c = search needs
+
+element-write-b-4 : tie.Need-element-write-b-4 Inv-loop μ-loop
+element-write-b-4 c = search needs
+
+mul-b-3 : tie.Need-mul-b-3 Inv-loop μ-loop
+mul-b-3 c = search needs
+
+element-write-b-5 : tie.Need-element-write-b-5 Inv-loop μ-loop
+element-write-b-5 c = search needs
+
+mul-b-4 : tie.Need-mul-b-4 Inv-loop μ-loop
+mul-b-4 c = search needs
+
+element-write-b-6 : tie.Need-element-write-b-6 Inv-loop μ-loop
+element-write-b-6 c = search needs
+
+mul-b-5 : tie.Need-mul-b-5 Inv-loop μ-loop
+mul-b-5 c = search needs
+
+element-write-b-7 : tie.Need-element-write-b-7 Inv-loop μ-loop
+element-write-b-7 c = search needs
+
+add-place : tie.Need-add-place Inv-loop μ-loop
+add-place c = search needs
+
+loop-less : tie.Need-loop-less Inv-loop μ-loop
+loop-less c = search needs
+
+loop-again : tie.Need-loop-again Inv-loop μ-loop
+loop-again c =
+    let l = c .before .before .before .before in
+    let so-far = l .loop .inv .1 in
+    let test = c .before .bit-of .ensures in
+    let step : c .if1 .b ≡ settledTo (l .before .args .auction) (l .before .args .rests .now) (l .before .args .t1) (l .loop .place + 1) = ⊎-elim
+    (λ w. w .7 ∙ settled-clear _ _ _ (l .loop .b) _ so-far _ (rw (← test, w .0 .taken)) (rw (← w .3 .ensures) (w .4 .taken)) (w .6 .ensures))
+    (⊎-elim
+    (λ w. w .5 ∙ settled-keep _ _ _ (l .loop .b) _ so-far (rw (← test, w .0 .taken)) (rw (← w .3 .ensures) (w .4 .left)))
+    (λ w. w .1 ∙ settled-free _ _ _ (l .loop .b) _ so-far (rw (← test, ne-eqb _ 1 (w .0 .left)))))
+    (c .if1 .came) in
+    (omega arith, step)
+
+returns : tie.Need-returns Inv-loop μ-loop
+returns c = let e : c .before .loop .place ≡ 512 = omega arith in rw e at (c .before .loop .inv .1)
+
+pub settled-spec : {M : Type 1} → statement M
+settled-spec =
+    tie.close
+    (tie.spec
+    Inv-loop
+    μ-loop
+    loop-holds
+    mul-word
+    element-copy-out-word
+    bit-of-requires
+    mul-rest
+    element-copy-out-rest
+    element-copy-out-ends
+    ends-requires
+    unmarked-requires
+    mul-b
+    element-write-b
+    mul-b-2
+    element-write-b-2
+    element-write-b-3
+    element-write-b-4
+    mul-b-3
+    element-write-b-5
+    mul-b-4
+    element-write-b-6
+    mul-b-5
+    element-write-b-7
+    add-place
+    loop-less
+    loop-again
+    returns)
