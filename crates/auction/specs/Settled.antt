@@ -1,24 +1,22 @@
 -- The book after an auction, from the open quantities that are left by place.
 use Prim.Native.Nat.{ℕ, zero, suc, _+_, _-_, _≤_, _<_}
 use mathlib.Core.Bool.{Bool, true, false, cond, not, _||_}
-use mathlib.Core.Option.{some, Option·none-ne-some, Option·some-injective}
+use mathlib.Core.Option.{none, some, Option·none-ne-some, Option·some-injective}
 use mathlib.Core.Path.{_≡_, refl, sym, ap, subst, _∙_}
 use mathlib.Core.List.{List}
 use native.Mathlib.Numerals.{add-one}
 use native.Mathlib.Omega.{arith}
 use borrow.Author.Tests.{eqb-false}
-use lib.Dec.{T, eqb, leb}
+use lib.Dec.{eqb, leb}
 use lib.ListN.{getD, set}
 use lib.Seq.{set-getD}
 use Rattle.lists.specs.Tests.{tests, and-both, and-intro}
 use Rattle.terms.specs.Bounds.{places, minQuantity, maxQuantity}
-use Rattle.terms.specs.Kinds.{isQuantity}
 use Rattle.terms.specs.Orders.{validityNumber}
 use Rattle.terms.specs.declared.orders.{Validity.Validity, Validity.the-variants.AtOpening, Validity.the-variants.AtClose, Validity.the-variants.Day, Validity.the-variants.LaterDay, Auction.Auction, Auction.the-variants.Opening, Auction.the-variants.Closing, Order.Order}
 use Rattle.book.specs.declared.Book.{Book}
 use Rattle.book.specs.Places.{isTaken, marked, unmarked}
 use Rattle.book.specs.Columns.{Raw, rawAt, rawOf, orderFrom, orderAt, emptyRaw, written, stored, cleared}
-use Rattle.book.specs.Changes.{SameAt}
 use Rattle.book.specs.Resting.{putBack, changedAt, changedTo, changed}
 use Rattle.book.specs.Sound.{SoundOrder, SoundBook}
 use Rattle.book.specs.Changed.{changed-to-later}
@@ -109,4 +107,67 @@ module _ (a : Auction) (trades : List Trade) (c : Book) (place : ℕ) (taken : i
       → cond (eqb (getD rests place 0) 0 || endsAs a (getD (c .validity) place 0)) (cleared c place) (withLeft c place (getD rests place 0))
       ≡ putBack c place (restOf a trades (orderAt c place))
   unfolding restOf
-  settled-taken rests e = ?go
+  settled-taken rests e = rw (e, ends-here) (go (leaves a (remaining trades (orderAt c place))))
+    where
+      ends-here : endsAs a (getD (c .validity) place 0) ≡ ends a (orderAt c place .validity)
+      ends-here = ap (endsAs a) (sym (ap (λ (r : Raw). r .validity) coded)) ∙ ends-same a (orderAt c place .validity)
+
+      go : (t : Bool) → cond t (cleared c place) (withLeft c place (remaining trades (orderAt c place) .left)) ≡ putBack c place (cond t none (some (remaining trades (orderAt c place))))
+      go true = refl
+      go false = sym stored-left
+
+-- the open quantities that the trades leave, by place
+abbrev LeftOf : List Trade → List ℕ → Book → ℕ → Type 0
+LeftOf trades rests b p = isTaken (b .taken) p ≡ true → getD rests p 0 ≡ remaining trades (orderAt b p) .left
+
+settled-at : (a : Auction) (trades : List Trade) (rests : List ℕ) (c : Book) (place : ℕ) → (isTaken (c .taken) place ≡ true → rawOf (orderAt c place) ≡ rawAt c place) → LeftOf trades rests c place
+    → settledAt a rests c place ≡ changedAt (restOf a trades) c place
+settled-at a trades rests c place coded left = go (isTaken (c .taken) place) refl
+  where
+    go : (t : Bool) → isTaken (c .taken) place ≡ t
+        → cond t (cond (eqb (getD rests place 0) 0 || endsAs a (getD (c .validity) place 0)) (cleared c place) (withLeft c place (getD rests place 0))) c
+        ≡ cond t (putBack c place (restOf a trades (orderAt c place))) c
+    go true e = settled-taken a trades c place e (coded e) rests (left e)
+    go false e = refl
+
+-- The book is changed by what the trades leave of each order.
+module _ (step given : ℕ) (a : Auction) (trades : List Trade) where
+  -- what remains is above 0 and no more than before
+  pub rest-keeps : (o o' : Order) → SoundOrder step given o → restOf a trades o ≡ some o' → SoundOrder step given o' × (o' .number ≡ o .number)
+  unfolding restOf
+  rest-keeps o o' sound = go (eqb (remaining trades o .left) 0) refl (ends a (o .validity))
+    where
+      good : eqb (remaining trades o .left) 0 ≡ false → SoundOrder step given (remaining trades o)
+      good e = record {
+        numbered = sound .numbered;
+        given-already = sound .given-already;
+        of-member = sound .of-member;
+        open-quantity =
+            let most = and-both (leb minQuantity (o .left)) (leb (o .left) maxQuantity) (sound .open-quantity) .1 in
+            let some-left = eqb-false (remaining trades o .left) 0 e in
+            and-intro (leb minQuantity (remaining trades o .left)) (leb (remaining trades o .left) maxQuantity) (omega tests) (omega tests);
+        legal = sound .legal;
+      }
+
+      go : (s : Bool) → eqb (remaining trades o .left) 0 ≡ s → (t : Bool) → cond (s || t) none (some (remaining trades o)) ≡ some o' → SoundOrder step given o' × (o' .number ≡ o .number)
+      go true e t f = absurd (Option·none-ne-some o' f)
+      go false e true f = absurd (Option·none-ne-some o' f)
+      go false e false f =
+          let i = Option·some-injective (remaining trades o) o' f in
+          (subst (SoundOrder step given) i (good e), ap (λ (x : Order). x .number) (sym i))
+
+  settled-changed-to : (rests : List ℕ) (b : Book) → SoundBook step given b → ((p : ℕ) → p < places → LeftOf trades rests b p)
+      → (n : ℕ) → n ≤ places → settledTo a rests b n ≡ changedTo (restOf a trades) b n
+  unfolding settledTo changedTo
+  settled-changed-to rests b sound left zero h = refl
+  settled-changed-to rests b sound left (suc n) h =
+      let (same, raw) = changed-to-later (restOf a trades) b (sound .sized) n n (omega arith) (omega arith) in
+      rw (settled-changed-to rests b sound left n (omega arith))
+      (settled-at a trades rests (changedTo (restOf a trades) b n) n
+      (λ e. ap (λ (r : Raw). rawOf (orderFrom r)) raw ∙ sound .each n (omega arith) .coded (sym same ∙ e) ∙ sym raw)
+      (λ e. left n (omega arith) (sym same ∙ e) ∙ ap (λ (r : Raw). remaining trades (orderFrom r) .left) (sym raw)))
+
+  pub settled-changed : (rests : List ℕ) (b : Book) → SoundBook step given b
+      → ((p : ℕ) → p < places → isTaken (b .taken) p ≡ true → getD rests p 0 ≡ orderAt b p .left - traded (orderAt b p .side) (orderAt b p .number) trades)
+      → settled a rests b ≡ changed (restOf a trades) b
+  settled-changed rests b sound left = settled-changed-to rests b sound left places (omega arith)

@@ -7,3 +7,4 @@ pub mod Resting
 pub mod Rests
 pub mod Sound
 pub mod Additions
+pub mod Changed

@@ -6,6 +6,8 @@ pub mod Rank
 pub mod Ranks
 pub mod Insertion
 pub mod Placing
+pub mod Keys
+pub mod Queue
 pub mod Fill
 pub mod Shares
 pub mod Shared

@@ -1,5 +1,4 @@
 -- Either way round, what the price and the reference price are apart.
-use Prim.Native.Nat.{_*_}
 use mathlib.Core.Logic.{⊎-elim}
 use mathlib.Core.Path.{_≡_}
 use native.Mathlib.Omega.{arith}
