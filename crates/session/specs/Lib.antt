@@ -12,4 +12,5 @@ pub mod Sums
 pub mod Exactly
 pub mod Sound
 pub mod Calls
+pub mod QueueCalls
 pub mod Reach

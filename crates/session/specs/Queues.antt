@@ -40,6 +40,9 @@ pub record QueueLeaves : Type 0 where
   pub returned : Queued
   pub list : List ℕ
 
+abbrev pub queueLeaves : Queued → List ℕ → QueueLeaves
+queueLeaves returned list = record { returned = returned; list = list }
+
 abbrev pub queueRefused : ℕ → List ℕ → QueueLeaves
 queueRefused n list = record { returned = record { answer = n; count = 0 }; list = list }
 

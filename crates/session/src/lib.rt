@@ -3,16 +3,19 @@
 mod checks;
 
 use book::Book;
+use terms::Auction;
+use terms::AuctionMade;
 use terms::Entry;
 use terms::Order;
 use terms::OrderMade;
 use terms::Parameters;
 use terms::ParametersMade;
 use terms::Side;
+use terms::SideMade;
 ghost use mathlib.Core.Path.{_≡_};
 ghost use Rattle.terms.specs.Parameters.{parametersFrom};
 ghost use Rattle.session.specs.Entry.{freshSession, started as Entry·started, entered as Entry·entered, deleted as Entry·deleted};
-ghost use Rattle.session.specs.Queues.{filledFront, frontAnswered};
+ghost use Rattle.session.specs.Queues.{queueLeaves, queued as Queues·queued, filledFront, frontAnswered};
 ghost use Rattle.session.specs.Sound.{Sound};
 
 pub enum Phase {
@@ -207,6 +210,46 @@ impl Session {
             book,
         };
         Deleted { answer: 0, session }
+    }
+
+    // Ranked queue: refusals 1, 2, 12. The order numbers taking part, best first, from the front of the list.
+    pub fn ranked(self, side: u8, which: u8, list: &mut [u32]) -> Queued
+        requires { ⌜ Sound self ⌝ }
+        ensures { λ r. ⌜ queueLeaves r (now (list .exit)) ≡ Queues·queued self side which (now (list .entry)) ⌝ }
+    {
+        let phase = self.phase;
+        let answer = checks::ranked_refusal(phase, side, which, list.len());
+        if answer != 0 {
+            return Queued { answer, count: 0 };
+        }
+        let SideMade::Good(on) = Side::new(side) else {
+            // Never: a queue that is not refused has a side and an auction.
+            return Queued {
+                answer: 1,
+                count: 0,
+            };
+        };
+        let AuctionMade::Good(auction) = Auction::new(which) else {
+            return Queued {
+                answer: 1,
+                count: 0,
+            };
+        };
+        let mut ranks = [0u64; 512];
+        let count = queue::ranked(
+            &mut ranks,
+            on,
+            auction,
+            &self.book.side,
+            &self.book.validity,
+            &self.book.limit,
+            &self.book.number,
+        );
+        queue::list_numbers(list, &ranks[..count], &self.book.number);
+        Queued {
+            answer: 0,
+            count: count as u32,
+        }
     }
 }
 
