@@ -1,11 +1,15 @@
 -- Pairing over shares: the same trades as `paired`, from the columns that the code has.
-use Prim.Native.Nat.{ℕ, zero, suc, _+_, _-_, min}
+use Prim.Native.Nat.{ℕ, zero, suc, _+_, _-_, _<_, min}
 use mathlib.Core.Bool.{Bool, true, false, cond}
-use mathlib.Core.List.{List, [], _∷_, map}
+use mathlib.Core.Path.{_≡_, refl, ap}
+use mathlib.Core.List.{List, [], _∷_, _++_, map}
+use native.Mathlib.Omega.{arith}
 use lib.Dec.{eqb, leb}
 use lib.ListN.{length, getD}
 use Rattle.queue.specs.Ranks.{placeOfRank}
+use Rattle.queue.specs.Fill.{Fill}
 use Rattle.auction.specs.declared.{Trade.Trade, pairing.Front.Front}
+use Rattle.auction.specs.Pairing.{rest, served, pairs, paired}
 
 -- the front after q of it is traded: the next share where nothing is left
 abbrev pub advancedTo : List ℕ → ℕ → Front → Front
@@ -35,3 +39,62 @@ numbersOf numbers ranks = map (λ r. getD numbers (placeOfRank r) 0) ranks
 
 abbrev pub pairedShares : List ℕ → List ℕ → List ℕ → List ℕ → List ℕ → List Trade
 pairedShares numbers buys bought sells sold = sharePairs (length bought + length sold) (numbersOf numbers buys) bought (numbersOf numbers sells) sold
+
+pub numbers-length : (numbers ranks : List ℕ) → length (numbersOf numbers ranks) ≡ length ranks
+numbers-length numbers [] = refl
+numbers-length numbers (r ∷ ranks) = ap suc (numbers-length numbers ranks)
+
+pub number-at : (numbers ranks : List ℕ) (i : ℕ) → i < length ranks → getD (numbersOf numbers ranks) i 0 ≡ getD numbers (placeOfRank (getD ranks i 0)) 0
+number-at numbers [] i h = absurd (omega arith)
+number-at numbers (r ∷ ranks) zero h = refl
+number-at numbers (r ∷ ranks) (suc i) h = number-at numbers ranks i (omega arith)
+
+-- no trades where a queue has no shares
+pub no-bought : (k : ℕ) (bn sn sq : List ℕ) → sharePairs k bn [] sn sq ≡ []
+unfolding sharePairs
+no-bought zero bn sn sq = refl
+no-bought (suc k) [] sn sq = refl
+no-bought (suc k) (b ∷ bn) sn sq = refl
+
+pub no-sold : (k : ℕ) (bn bq sn : List ℕ) → sharePairs k bn bq sn [] ≡ []
+unfolding sharePairs
+no-sold zero bn bq sn = refl
+no-sold (suc k) [] bq sn = refl
+no-sold (suc k) (b ∷ bn) [] sn = refl
+no-sold (suc k) (b ∷ bn) (x ∷ bq) [] = refl
+no-sold (suc k) (b ∷ bn) (x ∷ bq) (s ∷ sn) = refl
+
+-- Of fills, given by their orders' numbers and their quantities, the trades are those of `paired`; numbers past the last fill are nothing to them.
+abbrev numbersIn : List Fill → List ℕ
+numbersIn xs = map (λ x. x .order .number) xs
+
+abbrev sharesIn : List Fill → List ℕ
+sharesIn xs = map (λ x. x .quantity) xs
+
+served-numbers : (q : ℕ) (x : Fill) (xs : List Fill) (more : List ℕ) → numbersLeft q (x .quantity) (x .order .number) (numbersIn xs ++ more) ≡ numbersIn (served q x xs) ++ more
+served-numbers q x xs more = go (leb (x .quantity) q)
+  where
+    go : (b : Bool) → cond b (numbersIn xs ++ more) (x .order .number ∷ (numbersIn xs ++ more)) ≡ numbersIn (cond b xs (rest q x ∷ xs)) ++ more
+    go true = refl
+    go false = refl
+
+served-shares : (q : ℕ) (x : Fill) (xs : List Fill) → sharesLeft q (x .quantity) (sharesIn xs) ≡ sharesIn (served q x xs)
+served-shares q x xs = go (leb (x .quantity) q)
+  where
+    go : (b : Bool) → cond b (sharesIn xs) ((x .quantity - q) ∷ sharesIn xs) ≡ sharesIn (cond b xs (rest q x ∷ xs))
+    go true = refl
+    go false = refl
+
+share-pairs-of : (k : ℕ) (bs ss : List Fill) (more-b more-s : List ℕ) → sharePairs k (numbersIn bs ++ more-b) (sharesIn bs) (numbersIn ss ++ more-s) (sharesIn ss) ≡ pairs k bs ss
+unfolding sharePairs
+share-pairs-of zero bs ss more-b more-s = refl
+share-pairs-of (suc k) [] ss more-b more-s = no-bought (suc k) more-b (numbersIn ss ++ more-s) (sharesIn ss)
+share-pairs-of (suc k) (b ∷ bs) [] more-b more-s = no-sold (suc k) (numbersIn (b ∷ bs) ++ more-b) (sharesIn (b ∷ bs)) more-s
+share-pairs-of (suc k) (b ∷ bs) (s ∷ ss) more-b more-s =
+    let q = min (b .quantity) (s .quantity) in
+    ap (λ (l : List Trade). record { buy = b .order .number; sell = s .order .number; quantity = q } ∷ l)
+    (rw (served-numbers q b bs more-b, served-shares q b bs, served-numbers q s ss more-s, served-shares q s ss) (share-pairs-of k (served q b bs) (served q s ss) more-b more-s))
+
+pub share-pairs : (bs ss : List Fill) (more-b more-s : List ℕ)
+    → sharePairs (length bs + length ss) (map (λ x. x .order .number) bs ++ more-b) (map (λ x. x .quantity) bs) (map (λ x. x .order .number) ss ++ more-s) (map (λ x. x .quantity) ss) ≡ paired bs ss
+share-pairs bs ss more-b more-s = share-pairs-of (length bs + length ss) bs ss more-b more-s

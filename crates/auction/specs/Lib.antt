@@ -7,6 +7,7 @@ pub mod After
 pub mod Decided
 pub mod Written
 pub mod Fronts
+pub mod Turns
 pub mod Settled
 pub mod Trading
 pub mod Left

@@ -1,9 +1,13 @@
 -- The lent list: buy number, sell number, quantity, price for each trade, from the front; the remainder keeps its contents.
-use Prim.Native.Nat.{ℕ, _+_, _*_}
+use Prim.Native.Nat.{ℕ, suc, _+_, _*_, _≤_}
 use mathlib.Core.Bool.{cond}
+use mathlib.Core.Path.{_≡_, refl, ap, _∙_}
 use mathlib.Core.List.{List, [], _∷_, _++_}
+use native.Mathlib.Omega.{arith}
+use borrow.Author.Tests.{le-leb}
 use lib.Dec.{leb}
-use lib.ListN.{length, take, drop}
+use lib.ListN.{length, set, take, drop, length-append, length-drop}
+use lib.Seq.{sets-eq, take-at, drop-append-add, drop-drop}
 use Rattle.terms.specs.Bounds.{numbersPerTrade}
 use Rattle.auction.specs.declared.{Trade.Trade}
 
@@ -18,3 +22,42 @@ written price ts list = quadruples price ts ++ drop (numbersPerTrade * length ts
 abbrev pub wrote : ℕ → List ℕ → List ℕ → List ℕ
 wrote k numbers list =
     cond (leb (k * numbersPerTrade + numbersPerTrade) (length list)) (take (k * numbersPerTrade) list ++ numbers ++ drop (k * numbersPerTrade + numbersPerTrade) list) list
+
+-- four writes in a row
+pub wrote-four : (list : List ℕ) (at a b c d : ℕ) → at + 4 ≤ length list → set (set (set (set list at a) (at + 1) b) (at + 2) c) (at + 3) d ≡ take at list ++ (a ∷ b ∷ c ∷ d ∷ []) ++ drop (at + 4) list
+wrote-four list at a b c d h =
+    let e1 : at + 1 ≡ suc at = omega arith in
+    let e2 : at + 2 ≡ suc (suc at) = omega arith in
+    let e3 : at + 3 ≡ suc (suc (suc at)) = omega arith in
+    rw (e1, e2, e3) (sets-eq (a ∷ b ∷ c ∷ d ∷ []) list at h)
+
+quadruples-length : (price : ℕ) (ts : List Trade) → length (quadruples price ts) ≡ numbersPerTrade * length ts
+quadruples-length price [] = refl
+quadruples-length price (t ∷ ts) = omega (arith, quadruples-length price ts)
+
+quadruples-append : (price : ℕ) (ts us : List Trade) → quadruples price (ts ++ us) ≡ quadruples price ts ++ quadruples price us
+quadruples-append price [] us = refl
+quadruples-append price (t ∷ ts) us = ap (λ (l : List ℕ). t .buy ∷ t .sell ∷ t .quantity ∷ price ∷ l) (quadruples-append price ts us)
+
+-- one more trade in a list that has room for it
+pub written-next : (price : ℕ) (ts : List Trade) (t : Trade) (list : List ℕ) → numbersPerTrade * (length ts + 1) ≤ length list
+    → wrote (length ts) (t .buy ∷ t .sell ∷ t .quantity ∷ price ∷ []) (written price ts list) ≡ written price (ts ++ (t ∷ [])) list
+written-next price ts t list h =
+    rw (le-leb (length ts * 4 + 4) (length (written price ts list)) (omega (arith, long)), front, back, quadruples-append price ts (t ∷ []), more)
+  where
+    q : length (quadruples price ts) ≡ numbersPerTrade * length ts
+    q = quadruples-length price ts
+
+    long : length (written price ts list) ≡ length list
+    long = length-append (quadruples price ts) (drop (numbersPerTrade * length ts) list) ∙ rw (length-drop (numbersPerTrade * length ts) list) (omega (arith, q))
+
+    front : take (length ts * 4) (written price ts list) ≡ quadruples price ts
+    front = take-at (quadruples price ts) (drop (numbersPerTrade * length ts) list) (length ts * 4) (omega (arith, q))
+
+    back : drop (length ts * 4 + 4) (written price ts list) ≡ drop (numbersPerTrade * length ts + 4) list
+    back =
+        let e : length ts * 4 + 4 ≡ length (quadruples price ts) + 4 = omega (arith, q) in
+        rw e (drop-append-add (quadruples price ts) (drop (numbersPerTrade * length ts) list) 4 ∙ drop-drop 4 (numbersPerTrade * length ts) list)
+
+    more : numbersPerTrade * length (ts ++ (t ∷ [])) ≡ numbersPerTrade * length ts + 4
+    more = omega (arith, length-append ts (t ∷ []))

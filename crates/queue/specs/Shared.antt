@@ -11,7 +11,7 @@ use lib.Seq.{getD-set-same, getD-set-other}
 use Rattle.lists.specs.Sums.{_∈_, counted}
 use Rattle.terms.specs.declared.orders.{Order.Order}
 use Rattle.queue.specs.Ranks.{placeOfRank}
-use Rattle.queue.specs.Fill.{Fill, fill, filledBy, hasNumber}
+use Rattle.queue.specs.Fill.{fill, filledBy, hasNumber}
 use Rattle.queue.specs.Shares.{sharesOf, lessened}
 
 pub shares-fill : (total : ℕ) (os : List Order) → sharesOf total (map (λ o. o .left) os) ≡ map (λ x. x .quantity) (fill total os)

@@ -1,81 +1,83 @@
-use borrow.Author.Needs.{needs}
+-- Invariant: `State`, the trades done and those still to come.
+use Prim.Native.Nat.{_+_, _-_, _<_}
+use mathlib.Core.Bool.{true, _&&_}
+use mathlib.Core.Path.{_≡_, sym, _∙_}
 use native.Mathlib.Omega.{arith}
+use borrow.Author.Needs.{needs}
+use lib.Dec.{ltb}
+use lib.ListN.{length}
+use Rattle.auction.specs.Fronts.{numbersOf, numbers-length}
+use Rattle.auction.specs.Turns.{State, state-start, state-end, state-on, state-step}
 use Rattle.auction.proofs.pairing.pair.Statement.{statement}
 use Rattle.auction.proofs.pairing.pair.Tie as tie
-use Rattle.auction.proofs.pairing.pair.Reads as reads
-use Rattle.auction.proofs.pairing.pair.Lts as lts
-use Rattle.auction.proofs.pairing.advanced.Reads as advanced-reads
-use Rattle.auction.proofs.pairing.going.Reads as going-reads
-use Rattle.auction.proofs.pairing.least.Reads as least-reads
-use Rattle.auction.proofs.pairing.number_at.Reads as number-at-reads
-use Rattle.auction.proofs.pairing.share_at.Reads as share-at-reads
-use Rattle.auction.proofs.pairing.write_trade.Reads as write-trade-reads
 
 abbrev Inv-loop : tie.InvT-loop
-Inv-loop list₀ price numbers buys bought sells sold b₀ s₀ k₀ list b s k = ?
+Inv-loop list₀ price numbers buys bought sells sold b₀ s₀ k₀ list b s k = State (numbersOf numbers buys) bought (numbersOf numbers sells) sold price list₀ list b s k
 
 abbrev μ-loop : tie.MeasureT-loop
-μ-loop list₀ price numbers buys bought sells sold b₀ s₀ k₀ list b s k = ?
+μ-loop list₀ price numbers buys bought sells sold b₀ s₀ k₀ list b s k = length bought + length sold - k
 
--- src/pairing.rt:94:15
+-- where the function starts, from a turn
+abbrev start : (l : tie.At-loop Inv-loop μ-loop) → tie.Start Inv-loop μ-loop
+start l = l .before .before .before .before .before .before .before .before
+
+-- in a turn neither queue is at its end
+goes : (c : tie.Then1 Inv-loop μ-loop) → (ltb (c .before .before .loop .b .at) (length (start (c .before .before) .args .bought .now)) && ltb (c .before .before .loop .s .at) (length (start (c .before .before) .args .sold .now))) ≡ true
+goes c = sym (c .before .going .ensures) ∙ c .if1 .taken
+
+on : (c : tie.Then1 Inv-loop μ-loop) → (c .before .before .loop .b .at < length (start (c .before .before) .args .bought .now)) × (c .before .before .loop .s .at < length (start (c .before .before) .args .sold .now)) × (c .before .before .loop .k < length (start (c .before .before) .args .bought .now) + length (start (c .before .before) .args .sold .now))
+on c = state-on _ _ _ _ _ _ _ _ _ _ (c .before .before .loop .inv) (goes c)
+
 share-at-requires : tie.Need-share-at-requires Inv-loop μ-loop
 share-at-requires c κs = search needs
 
--- src/pairing.rt:98:15
 share-at-requires-2 : tie.Need-share-at-requires-2 Inv-loop μ-loop
 share-at-requires-2 c κs = search needs
 
--- src/pairing.rt:101:5
 loop-holds : tie.Need-loop-holds Inv-loop μ-loop
-loop-holds c = search needs
+loop-holds c = rw (c .before .share-at .ensures, c .share-at2 .ensures) (state-start _ _ _ _ _ _)
 
--- src/pairing.rt:101:11
 going-requires : tie.Need-going-requires Inv-loop μ-loop
 going-requires c κs = search needs
 
--- src/pairing.rt:102:13
 least-requires : tie.Need-least-requires Inv-loop μ-loop
 least-requires c κs = search needs
 
--- src/pairing.rt:103:13
 number-at-requires : tie.Need-number-at-requires Inv-loop μ-loop
-number-at-requires c κs = search needs
+number-at-requires c κs = omega (arith, on (c .before) .0, start (c .before .before .before) .pre .0)
 
--- src/pairing.rt:104:13
 number-at-requires-2 : tie.Need-number-at-requires-2 Inv-loop μ-loop
-number-at-requires-2 c κs = search needs
+number-at-requires-2 c κs = omega (arith, on (c .before .before) .1, start (c .before .before .before .before) .pre .1)
 
--- src/pairing.rt:105:9
 write-trade-requires : tie.Need-write-trade-requires Inv-loop μ-loop
-write-trade-requires c κs = search needs
+write-trade-requires c κs = omega (arith, on (c .before .before .before .before) .2, start (c .before .before .before .before .before .before) .pre .2)
 
--- src/pairing.rt:106:9
 advanced-requires : tie.Need-advanced-requires Inv-loop μ-loop
-advanced-requires c κs = search needs
+advanced-requires c κs = (on (c .before .before .before .before .before .before .before) .0, omega (arith, c .before .before .before .before .before .before .least .ensures))
 
--- src/pairing.rt:107:9
 advanced-requires-2 : tie.Need-advanced-requires-2 Inv-loop μ-loop
-advanced-requires-2 c κs = search needs
+advanced-requires-2 c κs = (on (c .before .before .before .before .before .before .before .before) .1, omega (arith, c .before .before .before .before .before .before .before .least .ensures))
 
--- src/pairing.rt:108:9
 add-k : tie.Need-add-k Inv-loop μ-loop
-add-k c = search needs
+add-k c = omega (arith, on (c .before .before .before .before .before .before .before .before .before) .2, start (c .before .before .before .before .before .before .before .before .before .before .before) .pre .2)
 
--- src/pairing.rt:101:5
 loop-less : tie.Need-loop-less Inv-loop μ-loop
-loop-less c = search needs
+loop-less c = omega (arith, on (c .before .before .before .before .before .before .before .before .before) .2)
 
--- src/pairing.rt:101:5
 loop-again : tie.Need-loop-again Inv-loop μ-loop
-loop-again c = search needs
+loop-again c =
+    let t = c .before .before .before .before .before .before .before .before .before in
+    let l = c .before .before .before .before .before .before .before .before .before .before .before in
+    let a = start l in
+    state-step _ _ _ _ _ _ _ _ _ _ (l .loop .inv) (goes t)
+    (omega (arith, numbers-length (a .args .numbers .now) (a .args .buys .now), a .pre .0)) (omega (arith, numbers-length (a .args .numbers .now) (a .args .sells .now), a .pre .1))
+    _ _ _ _ _ _ (c .before .before .before .before .before .before .before .number-at .ensures) (c .before .before .before .before .before .before .number-at2 .ensures) (c .before .before .before .before .before .before .before .before .least .ensures) (c .before .advanced .ensures) (c .advanced2 .ensures) (c .before .before .before .before .write-trade .ensures) (c .before .before .before .before .write-trade .kept .0)
 
--- src/pairing.rt:80:1
 same-length : tie.Need-same-length Inv-loop μ-loop
-same-length c = search needs
+same-length c = c .before .before .loop .inv .long
 
--- src/pairing.rt:80:1
 returns : tie.Need-returns Inv-loop μ-loop
-returns c = search needs
+returns c = state-end _ _ _ _ _ _ _ _ _ _ (c .before .before .loop .inv) (sym (c .before .going .ensures) ∙ c .if1 .left)
 
 pub pair-spec : {M : Type 1} → statement M
 pair-spec =
