@@ -10,6 +10,7 @@ pub mod Fronts
 pub mod Turns
 pub mod Settled
 pub mod Trading
+pub mod TradesIn
 pub mod Left
 pub mod NonOpening
 pub mod Examples

@@ -2,13 +2,21 @@
 use Prim.Native.Nat.{ℕ}
 use mathlib.Core.Bool.{Bool}
 use mathlib.Core.List.{List}
+use lib.Dec.{leb}
+use Rattle.lists.specs.Ranking.{rank}
+use Rattle.terms.specs.Bounds.{places}
 use Rattle.terms.specs.declared.orders.{Side.Side, Side.the-variants.Buy, Side.the-variants.Sell, Auction.Auction}
-use Rattle.queue.specs.Ranks.{rankBound, along}
+use Rattle.book.specs.declared.Book.{Book}
+use Rattle.queue.specs.Ranks.{rankBound, ranksFrom, along}
 use Rattle.queue.specs.Shares.{sumsFrom, sharesOf, lessened}
 use Rattle.price.specs.Search.{sumBelow, offered, searchedIn}
 use Rattle.auction.specs.declared.{Trade.Trade, Outcome.Outcome}
 use Rattle.auction.specs.Decided.{outcomeFrom}
 use Rattle.auction.specs.Fronts.{pairedShares}
+
+-- the ranks of those taking part on a side of a book, best first
+abbrev pub ranksOn : Book → Auction → Side → List ℕ
+ranksOn b a s = rank leb (ranksFrom s a (b .side) (b .validity) (b .limit) (b .number) 0 places)
 
 -- the sums of a queue's first orders, and what its orders get of a quantity
 abbrev pub sumsOf : List ℕ → List ℕ → List ℕ

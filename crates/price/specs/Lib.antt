@@ -4,5 +4,7 @@ pub mod Candidates
 pub mod Chain
 pub mod Legal
 pub mod Search
+pub mod Below
+pub mod Searched
 pub mod Examples
 pub mod Clause7

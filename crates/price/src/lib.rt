@@ -1,5 +1,6 @@
 // The price: interest of a side at a price, executable quantity, candidates and the chain (01 "The price").
 mod search;
+mod weigh;
 
 pub use search::Found;
 pub use search::searched;

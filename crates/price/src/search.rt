@@ -1,5 +1,10 @@
 // The search: the chain over all candidates. Those whose limits allow a price are a front part of the ranked queue, so that
 // what a side offers at a price is a sum of its first orders; every candidate is weighed against the best so far.
+use crate::weigh::Weighed;
+use crate::weigh::apart;
+use crate::weigh::first;
+use crate::weigh::smaller;
+use crate::weigh::weigh;
 use terms::Limit;
 use terms::Side;
 ghost use mathlib.Core.Path.{_≡_};
@@ -7,76 +12,15 @@ ghost use mathlib.Core.List.{map};
 ghost use Prim.Native.Nat.{_<_, _≤_};
 ghost use lib.Dec.{leb};
 ghost use lib.ListN.{length, getD};
-ghost use Rattle.lists.specs.Sums.{apart as Sums·apart};
 ghost use Rattle.lists.specs.Ranking.{Ranked};
 ghost use Rattle.queue.specs.Ranks.{placeOfRank};
-ghost use Rattle.price.specs.Search.{firstWeighed, joined as Search·joined, weighed, countBelow, sumBelow, offered, weighAll, foundIn, searchedIn};
+ghost use Rattle.price.specs.Search.{countBelow, sumBelow, offered, weighAll, foundIn, searchedIn};
 ghost use Rattle.terms.specs.declared.orders.{Side.the-variants.Buy, Side.the-variants.Sell};
-
-// What the candidates so far come to: the highest executable quantity, the smallest difference among those that have it, and
-// of those that have both the highest, the lowest and the one nearest to the reference price.
-pub struct Weighed {
-    pub most: u64,
-    pub least: u64,
-    pub high: u32,
-    pub low: u32,
-    pub near: u32,
-}
 
 // The highest executable quantity, and the price that the chain leaves.
 pub struct Found {
     pub most: u64,
     pub price: u32,
-}
-
-fn apart(a: u64, b: u64) -> u64
-    ensures { λ r. ⌜ r ≡ Sums·apart a b ⌝ }
-{
-    if a <= b { b - a } else { a - b }
-}
-
-fn first(price: u32, most: u64, least: u64) -> Weighed
-    ensures { λ r. ⌜ r ≡ firstWeighed price most least ⌝ }
-{
-    Weighed {
-        most,
-        least,
-        high: price,
-        low: price,
-        near: price,
-    }
-}
-
-// One more with the same executable quantity and difference.
-fn joined(w: Weighed, reference: u32, price: u32) -> Weighed
-    ensures { λ r. ⌜ r ≡ Search·joined reference price w ⌝ }
-{
-    let high = if w.high < price { price } else { w.high };
-    let low = if price < w.low { price } else { w.low };
-    let nearer = apart(reference as u64, price as u64) < apart(reference as u64, w.near as u64);
-    let near = if nearer { price } else { w.near };
-    Weighed {
-        most: w.most,
-        least: w.least,
-        high,
-        low,
-        near,
-    }
-}
-
-// One more candidate, with demand and supply at it.
-fn weigh(w: Weighed, reference: u32, price: u32, demand: u64, supply: u64) -> Weighed
-    ensures { λ r. ⌜ r ≡ weighed reference price demand supply w ⌝ }
-{
-    let most = if demand <= supply { demand } else { supply };
-    let least = apart(demand, supply);
-    if (w.most < most) | ((most == w.most) & (least < w.least)) {
-        return first(price, most, least);
-    }
-    if (most == w.most) & (least == w.least) {
-        return joined(w, reference, price);
-    }
-    w
 }
 
 // How many ranks are below the bound.
@@ -183,8 +127,7 @@ pub fn searched<'a>(
 {
     let demand = offer(Side::Buy, reference, buys, buy_sums);
     let supply = offer(Side::Sell, reference, sells, sell_sums);
-    let most = if demand <= supply { demand } else { supply };
-    let alone = first(reference, most, apart(demand, supply));
+    let alone = first(reference, smaller(demand, supply), apart(demand, supply));
     let bid = weigh_limits(
         alone,
         reference,

@@ -8,6 +8,7 @@ pub mod Insertion
 pub mod Placing
 pub mod Keys
 pub mod Queue
+pub mod Reach
 pub mod Fill
 pub mod Shares
 pub mod Shared

@@ -1,5 +1,5 @@
 -- Shares are the quantities of `fill`, and a column less the shares has less by what the orders are filled with.
-use Prim.Native.Nat.{ℕ, zero, suc, _+_, _-_, _≤_, _<_, min}
+use Prim.Native.Nat.{ℕ, zero, suc, _+_, _-_, _<_, min}
 use mathlib.Core.Bool.{Bool, true, false}
 use mathlib.Core.Path.{_≡_, refl, sym, ap, _∙_}
 use mathlib.Core.List.{List, [], _∷_, map, List·Memᴰ·head, List·Memᴰ·tail}
@@ -46,15 +46,15 @@ less-at lefts place p q h = go (eqb place p) refl
     go true e = rw (eqb-true place p e) (getD-set-same lefts p (getD lefts p 0 - q) 0 h)
     go false e = getD-set-other lefts place p (getD lefts place 0 - q) 0 (λ d. eqb-false place p e (sym d)) ∙ omega arith
 
-pub lessened-at : (ranks shares lefts : List ℕ) (p : ℕ) → p < length lefts → length shares ≤ length ranks → getD (lessened ranks shares lefts) p 0 ≡ getD lefts p 0 - sharedAt ranks shares p
+pub lessened-at : (ranks shares lefts : List ℕ) (p : ℕ) → p < length lefts → getD (lessened ranks shares lefts) p 0 ≡ getD lefts p 0 - sharedAt ranks shares p
 unfolding lessened sharedAt
-lessened-at [] shares lefts p h k = omega arith
-lessened-at (r ∷ ranks) [] lefts p h k = omega arith
-lessened-at (r ∷ ranks) (q ∷ shares) lefts p h k =
+lessened-at [] shares lefts p h = omega arith
+lessened-at (r ∷ ranks) [] lefts p h = omega arith
+lessened-at (r ∷ ranks) (q ∷ shares) lefts p h =
     let place = placeOfRank r in
     omega (
       arith,
-      lessened-at ranks shares (set lefts place (getD lefts place 0 - q)) p (omega (arith, length-set lefts place (getD lefts place 0 - q))) (omega arith),
+      lessened-at ranks shares (set lefts place (getD lefts place 0 - q)) p (omega (arith, length-set lefts place (getD lefts place 0 - q))),
       less-at lefts place p q h,
     )
 

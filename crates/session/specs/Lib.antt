@@ -13,4 +13,3 @@ pub mod Exactly
 pub mod Sound
 pub mod Calls
 pub mod QueueCalls
-pub mod Reach

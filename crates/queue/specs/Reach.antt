@@ -1,4 +1,4 @@
--- What the resting orders of a sound session have: the premises of rank and of demand 3.
+-- What the resting orders of a sound book have: the premises of rank and of demand 3.
 use Prim.Native.Nat.{ℕ, zero, suc, _^_, _≤_, _<_}
 use mathlib.Core.Bool.{Bool, true, false, cond}
 use mathlib.Core.Path.{_≡_, refl, sym, ap, _∙_}

@@ -1,0 +1,148 @@
+-- The trades of a sound book and what rests at each place, told by the ranks of its queues.
+use Prim.Native.Nat.{ℕ, zero, suc, _+_, _-_, _≤_, _<_}
+use mathlib.Core.Bool.{Bool, true, false}
+use mathlib.Core.Logic.{_≢_}
+use mathlib.Core.Path.{_≡_, refl, sym, ap, subst, _∙_}
+use mathlib.Core.List.{List, [], _∷_, _++_, map, map-map}
+use native.Mathlib.Omega.{arith}
+use borrow.Author.Tests.{eqb-true, eq-eqb, ne-eqb}
+use lib.Dec.{eqb, eqb→eq, eqb-refl}
+use lib.ListN.{length, getD, take, drop, length-map, take-append-drop}
+use Rattle.lists.specs.Tests.{same-test}
+use Rattle.lists.specs.Sums.{_∈_, counted, sum-none}
+use Rattle.lists.specs.Ranking.{rank}
+use Rattle.terms.specs.Bounds.{places, maxNumber}
+use Rattle.terms.specs.declared.orders.{Side.Side, Side.the-variants.Buy, Side.the-variants.Sell, Auction.Auction, Order.Order}
+use Rattle.book.specs.declared.Book.{Book}
+use Rattle.book.specs.Places.{isTaken}
+use Rattle.book.specs.Columns.{orderAt}
+use Rattle.book.specs.Resting.{resting, changed}
+use Rattle.book.specs.Rests.{resting-intro, resting-elim}
+use Rattle.book.specs.Sound.{SoundBook}
+use Rattle.queue.specs.Part.{takingPart, takingPart-elim, takingPart-distinct}
+use Rattle.queue.specs.Sides.{sameSide, sameSide-eq}
+use Rattle.queue.specs.Distinct.{Distinct}
+use Rattle.queue.specs.Rank.{onSide, ranked, ranked-elim}
+use Rattle.queue.specs.Ranks.{placeOfRank, ranksFrom, along}
+use Rattle.queue.specs.Reach.{resting-distinct}
+use Rattle.queue.specs.Queue.{RankOfBook, ranks-known, ranked-by-ranks}
+use Rattle.queue.specs.Fill.{Fill, fill, filledBy, hasNumber, fill-all, fill-length}
+use Rattle.queue.specs.Shares.{sharesOf, lessened}
+use Rattle.queue.specs.Shared.{shares-fill, fill-orders, sharedAt, lessened-at, lessened-length, shared-at-fill}
+use Rattle.price.specs.Interest.{interest}
+use Rattle.auction.specs.declared.{Trade.Trade}
+use Rattle.auction.specs.Trades.{traded}
+use Rattle.auction.specs.Fills.{fills, tradesOf, trades-filled}
+use Rattle.auction.specs.After.{restOf}
+use Rattle.auction.specs.Fronts.{sharePairs, share-pairs}
+use Rattle.auction.specs.Settled.{settled, settled-changed}
+use Rattle.auction.specs.Trading.{ranksOn, sharesIn, tradesIn, restsIn}
+
+front-map : {A B : Type 0} (f : A → B) (n : ℕ) (xs : List A) → take n (map f xs) ≡ map f (take n xs)
+front-map f zero xs = refl
+front-map f (suc n) [] = refl
+front-map f (suc n) (x ∷ xs) = rw (front-map f n xs)
+
+apart-sides : Sell ≡ Buy → ⊥
+apart-sides e = let z : _≡_ {A = ℕ} 0 1 = cc in omega arith
+
+module _ (step given : ℕ) (b : Book) (sound : SoundBook step given b) (few : given ≤ maxNumber) (a : Auction) where
+  abbrev part : List Order
+  part = takingPart a (resting b)
+
+  abbrev orderOf : ℕ → Order
+  orderOf r = orderAt b (placeOfRank r)
+
+  -- The columns along a side's ranks are the columns of its ranked queue.
+  along-on : (s : Side) (w : Order → ℕ) → map (λ r. w (orderOf r)) (ranksOn b a s) ≡ map w (ranked s part)
+  along-on s w = sym (map-map w orderOf (ranksOn b a s)) ∙ ap (map w) (ranked-by-ranks step given b sound few s a)
+
+  shares-on : (quantity : ℕ) (s : Side) → sharesIn quantity (b .left) (ranksOn b a s) ≡ map (λ x. x .quantity) (fills s quantity part)
+  unfolding fills
+  shares-on quantity s = ap (sharesOf quantity) (along-on s (λ o. o .left)) ∙ shares-fill quantity (ranked s part)
+
+  numbers-on : (quantity : ℕ) (s : Side)
+      → along (b .number) (ranksOn b a s) ≡ map (λ x. x .order .number) (fills s quantity part) ++ drop (length (fills s quantity part)) (map (λ o. o .number) (ranked s part))
+  unfolding fills
+  numbers-on quantity s =
+      along-on s (λ o. o .number)
+      ∙ sym (take-append-drop (length filled) (map number os))
+      ∙ ap (λ (t : List ℕ). t ++ drop (length filled) (map number os))
+      (front-map number (length filled) os ∙ ap (map number) (sym (fill-orders quantity os)) ∙ map-map number (λ (x : Fill). x .order) filled)
+    where
+      os : List Order
+      os = ranked s part
+
+      filled : List Fill
+      filled = fill quantity os
+
+      number : Order → ℕ
+      number o = o .number
+
+  -- The trades are those of the definition.
+  pub trades-in : (quantity : ℕ) → tradesIn quantity (b .number) (b .left) (ranksOn b a Buy) (ranksOn b a Sell) ≡ tradesOf quantity part
+  unfolding tradesIn tradesOf
+  trades-in quantity =
+      rw (shares-on quantity Buy, shares-on quantity Sell, numbers-on quantity Buy, numbers-on quantity Sell, length-map (fills Buy quantity part) (λ x. x .quantity), length-map (fills Sell quantity part) (λ x. x .quantity))
+      (share-pairs (fills Buy quantity part) (fills Sell quantity part) _ _)
+
+  -- places tell the orders of a book apart as numbers do
+  module _ (p : ℕ) (here : p < places) (taken : isTaken (b .taken) p ≡ true) where
+    same-order : (s : Side) (r : ℕ) → r ∈ ranksOn b a s → eqb (placeOfRank r) p ≡ eqb (orderOf r .number) (orderAt b p .number)
+    same-order s r m =
+        let k = ranks-known step given b sound few s a r m in
+        same-test (eqb (placeOfRank r) p) (eqb (orderOf r .number) (orderAt b p .number))
+        (λ t. let e = eqb→eq (placeOfRank r) p t in rw e (eqb-refl (orderAt b p .number)))
+        (λ t. let e = sound .once (placeOfRank r) p (k .here) here (k .taken) taken (eqb→eq (orderOf r .number) (orderAt b p .number) t) in rw e (eqb-refl p))
+
+    shared-on : (quantity : ℕ) (s : Side) → sharedAt (ranksOn b a s) (sharesIn quantity (b .left) (ranksOn b a s)) p ≡ filledBy (hasNumber (orderAt b p .number)) (fills s quantity part)
+    unfolding fills
+    shared-on quantity s =
+        shared-at-fill orderOf (ranksOn b a s) p (orderAt b p .number) quantity (same-order s)
+        ∙ ap (λ (os : List Order). filledBy (hasNumber (orderAt b p .number)) (fill quantity os)) (ranked-by-ranks step given b sound few s a)
+
+    -- on the other side nothing is filled under its number
+    other-fill : (quantity : ℕ) (s : Side) → s ≢ orderAt b p .side → filledBy (hasNumber (orderAt b p .number)) (fills s quantity part) ≡ 0
+    unfolding fills
+    other-fill quantity s apart =
+        sum-none (λ x. counted (hasNumber (orderAt b p .number) (x .order)) (x .quantity)) (fill quantity (ranked s part))
+        (fill-all (λ x. counted (hasNumber (orderAt b p .number) (x .order)) (x .quantity) ≡ 0) quantity (ranked s part) (λ o n m. rw (ne-eqb (o .number) (orderAt b p .number) (differs o m))))
+      where
+        differs : (o : Order) → o ∈ ranked s part → o .number ≢ orderAt b p .number
+        differs o m i =
+            let (listed, on) = ranked-elim s part m in
+            let there = resting-elim b places (takingPart-elim a (resting b) listed .0) in
+            let e : there .place ≡ p = sound .once (there .place) p (there .below) here (there .taken) taken (ap (λ (x : Order). x .number) (sym (there .is)) ∙ i) in
+            apart (sameSide-eq s (o .side) on ∙ ap (λ (x : Order). x .side) (there .is ∙ ap (orderAt b) e))
+
+    module _ (price quantity : ℕ) (enough : (s : Side) → quantity ≤ interest s price part) where
+      distinct : Distinct part
+      distinct = takingPart-distinct a (resting b) (resting-distinct step given b sound)
+
+      -- what rests at the place
+      rest-at : getD (restsIn quantity (b .left) (ranksOn b a Buy) (ranksOn b a Sell)) p 0 ≡ orderAt b p .left - traded (orderAt b p .side) (orderAt b p .number) (tradesOf quantity part)
+      unfolding restsIn
+      rest-at = go (orderAt b p .side) refl
+        where
+          bought : List ℕ
+          bought = sharesIn quantity (b .left) (ranksOn b a Buy)
+
+          sold : List ℕ
+          sold = sharesIn quantity (b .left) (ranksOn b a Sell)
+
+          both : getD (lessened (ranksOn b a Sell) sold (lessened (ranksOn b a Buy) bought (b .left))) p 0
+              ≡ getD (b .left) p 0 - sharedAt (ranksOn b a Buy) bought p - sharedAt (ranksOn b a Sell) sold p
+          both =
+              lessened-at (ranksOn b a Sell) sold (lessened (ranksOn b a Buy) bought (b .left)) p (omega (arith, lessened-length (ranksOn b a Buy) bought (b .left), sound .sized .left))
+              ∙ ap (λ (n : ℕ). n - sharedAt (ranksOn b a Sell) sold p) (lessened-at (ranksOn b a Buy) bought (b .left) p (omega (arith, sound .sized .left)))
+
+          go : (t : Side) → orderAt b p .side ≡ t
+              → getD (lessened (ranksOn b a Sell) sold (lessened (ranksOn b a Buy) bought (b .left))) p 0 ≡ orderAt b p .left - traded t (orderAt b p .number) (tradesOf quantity part)
+          go Buy e = omega (arith, both, shared-on quantity Buy, trades-filled price quantity part distinct enough Buy (orderAt b p .number), shared-on quantity Sell, other-fill quantity Sell (λ i. apart-sides (i ∙ e)))
+          go Sell e = omega (arith, both, shared-on quantity Sell, trades-filled price quantity part distinct enough Sell (orderAt b p .number), shared-on quantity Buy, other-fill quantity Buy (λ i. apart-sides (sym (i ∙ e))))
+
+  -- The book after them is the changed book.
+  pub rests-in : (price quantity : ℕ) → ((s : Side) → quantity ≤ interest s price part)
+      → settled a (restsIn quantity (b .left) (ranksOn b a Buy) (ranksOn b a Sell)) b ≡ changed (restOf a (tradesOf quantity part)) b
+  rests-in price quantity enough =
+      settled-changed step given a (tradesOf quantity part) (restsIn quantity (b .left) (ranksOn b a Buy) (ranksOn b a Sell)) b sound (λ p here taken. rest-at p here taken price quantity enough)

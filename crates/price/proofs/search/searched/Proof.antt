@@ -1,0 +1,53 @@
+use mathlib.Core.List.{map}
+use lib.ListN.{getD}
+use borrow.Author.Needs.{needs}
+use Rattle.queue.specs.Ranks.{placeOfRank}
+use Rattle.price.specs.Search.{searched-from}
+use Rattle.price.proofs.search.searched.Statement.{statement}
+use Rattle.price.proofs.search.searched.Tie as tie
+
+offer-requires : tie.Need-offer-requires
+offer-requires c κs = search needs
+
+offer-requires-2 : tie.Need-offer-requires-2
+offer-requires-2 c κs = search needs
+
+smaller-requires : tie.Need-smaller-requires
+smaller-requires c κs = search needs
+
+apart-requires : tie.Need-apart-requires
+apart-requires c κs = search needs
+
+first-requires : tie.Need-first-requires
+first-requires c κs = search needs
+
+weigh-limits-requires : tie.Need-weigh-limits-requires
+weigh-limits-requires c κs = search needs
+
+weigh-limits-requires-2 : tie.Need-weigh-limits-requires-2
+weigh-limits-requires-2 c κs = search needs
+
+chosen-requires : tie.Need-chosen-requires
+chosen-requires c κs = c .before .before .before .before .before .before .before .before .before .before .before .pre
+
+returns : tie.Need-returns
+returns c =
+    let w = c .before .before in
+    let f = w .before in
+    let o = f .before .before .before in
+    let a = o .before .before .before .before .before .before .args in
+    searched-from _ _ _ (map (λ x. getD (a .limits .now) (placeOfRank x) 0) (a .buys .now)) (map (λ x. getD (a .limits .now) (placeOfRank x) 0) (a .sells .now)) (c .chosen .ensures) (c .before .weigh-limits2 .ensures) (w .weigh-limits .ensures) (f .first .ensures) (f .before .before .smaller .ensures) (f .before .apart .ensures) (o .before .offer .ensures) (o .offer2 .ensures)
+
+pub searched-spec : {M : Type 1} → statement M
+searched-spec =
+    tie.close
+    (tie.spec
+    offer-requires
+    offer-requires-2
+    smaller-requires
+    apart-requires
+    first-requires
+    weigh-limits-requires
+    weigh-limits-requires-2
+    chosen-requires
+    returns)
