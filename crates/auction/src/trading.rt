@@ -94,13 +94,13 @@ pub fn count_trades<'a>(
 }
 
 // The trades of a quantity at a price, written to the list; the book is settled after them.
-pub fn traded(
+pub fn traded<'a>(
     b: Book,
     auction: Auction,
     price: u32,
     quantity: u64,
-    buys: &[u64],
-    sells: &[u64],
+    buys: &'a [u64],
+    sells: &'a [u64],
     list: &mut [u32],
 ) -> Closed
     requires { ⌜ (length (now buys) ≤ 512) × (length (now sells) ≤ 512) ⌝ }

@@ -7,7 +7,8 @@ use borrow.Author.Needs.{needs}
 use lib.ListN.{length, getD}
 use Rattle.terms.specs.declared.orders.{Side.the-variants.Buy, Side.the-variants.Sell}
 use Rattle.queue.specs.Ranks.{placeOfRank}
-use Rattle.price.specs.Search.{offered, weighFrom, from-unlimited, from-limited, from-end}
+use Rattle.price.specs.Search.{offered}
+use Rattle.price.specs.Weighing.{weighFrom, from-unlimited, from-limited, from-end}
 use Rattle.price.proofs.search.weigh_limits.Statement.{statement}
 use Rattle.price.proofs.search.weigh_limits.Tie as tie
 
