@@ -35,7 +35,7 @@ abbrev pub leftOf : Side → (Order → Bool) → List Order → ℕ
 leftOf s f book = sum (λ o. counted (onSide s o && f o) (o .left)) book
 
 -- .. in the ranked queue
-queue-left : (s : Side) (f : Order → Bool) (book : List Order) → sum (λ o. counted (f o) (o .left)) (ranked s book) ≡ leftOf s f book
+pub queue-left : (s : Side) (f : Order → Bool) (book : List Order) → sum (λ o. counted (f o) (o .left)) (ranked s book) ≡ leftOf s f book
 queue-left s f book =
     ranked-sum s book (λ o. counted (f o) (o .left))
     ∙ sum-same (λ o. counted (onSide s o) (counted (f o) (o .left))) (λ o. counted (onSide s o && f o) (o .left)) book (λ o m. sym (counted-and (onSide s o) (f o) (o .left)))

@@ -10,7 +10,9 @@ pub mod Fronts
 pub mod Turns
 pub mod Settled
 pub mod Trading
+pub mod Composed
 pub mod TradesIn
+pub mod OutcomeIn
 pub mod Left
 pub mod NonOpening
 pub mod Examples

@@ -52,7 +52,7 @@ unlimited-first s Unlimited w h k = tt
 unlimited-first s (At v) Unlimited h k = absurd h
 unlimited-first s (At v) (At w) h k = k
 
-unlimited-front : (s : Side) (book : List Order) → Distinct book → FrontPart (λ o. isUnlimited (o .limit)) (ranked s book)
+pub unlimited-front : (s : Side) (book : List Order) → Distinct book → FrontPart (λ o. isUnlimited (o .limit)) (ranked s book)
 unlimited-front s book d =
     ranked-front s (λ o. isUnlimited (o .limit)) (λ a b h k. unlimited-first s (a .limit) (b .limit) (ahead-limit s a b h) k) (ranked s book) (ranked-in-order s book d)
 

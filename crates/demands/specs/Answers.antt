@@ -5,22 +5,27 @@ use mathlib.Core.Bool.{not, _&&_}
 use mathlib.Core.Logic.{_↔_, _≢_}
 use mathlib.Core.Path.{_≡_, refl, sym, _∙_}
 use mathlib.Core.List.{List, []}
-use lib.Dec.{T, leb, eqb}
+use lib.Dec.{T, leb, ltb, eqb}
+use lib.ListN.{length}
 use Rattle.lists.specs.Choice.{any}
-use Rattle.terms.specs.Bounds.{places, maxNumber}
+use Rattle.terms.specs.Bounds.{places, maxNumber, tradeListLength}
 use Rattle.terms.specs.Kinds.{isNumber, isMember}
-use Rattle.terms.specs.Orders.{isEntry, sideOf}
+use Rattle.terms.specs.Orders.{isEntry, isSide, isAuction, sideOf, auctionOf}
+use Rattle.terms.specs.Made.{auction-made}
 use Rattle.terms.specs.Parameters.{areParameters}
-use Rattle.terms.specs.declared.orders.{Side.Side, SideMade.SideMade, Entry.Entry}
+use Rattle.terms.specs.declared.orders.{Side.Side, SideMade.SideMade, Auction.Auction, AuctionMade.AuctionMade, Entry.Entry}
 use Rattle.terms.specs.declared.parameters.{Parameters.Parameters}
 use Rattle.book.specs.Places.{countTaken}
 use Rattle.book.specs.Resting.{resting, isOf}
-use Rattle.session.specs.declared.{Session.Session, Started.Started, Entered.Entered, Deleted.Deleted}
-use Rattle.session.specs.Phases.{hasStarted, allowsOrder}
+use Rattle.session.specs.declared.{Session.Session, Started.Started, Entered.Entered, Deleted.Deleted, Foreseen.Foreseen}
+use Rattle.session.specs.Phases.{hasStarted, allowsOrder, allowsAuction}
 use Rattle.session.specs.Controls.{offStep, reachesCollar, reachesMost, reachesMostAtReference}
 use Rattle.session.specs.Checks.{Check, firstHit}
 use Rattle.session.specs.Exactly.{ruleOf, earlier, NoneHit, wellNumbered, none-hit, given-exactly-when}
-use Rattle.session.specs.Queues.{FrontAnswer, frontChecks, frontAnswer, filledFront, front-side}
+use Rattle.session.specs.Queues.{QueueLeaves, rankedChecks, rankedAnswer, queued, FrontAnswer, frontChecks, frontAnswer, filledFront, front-side}
+use Rattle.session.specs.QueueCalls.{queue-made}
+use Rattle.session.specs.Sound.{test-holds}
+use Rattle.session.specs.Auctions.{AuctionLeaves, noAnswer, auctionChecks, auctionRefused, auctionAnswer, auctioned, theoreticalChecks, theoreticalAnswer, theoretical}
 use Rattle.session.specs.Entry.{freshSession, startChecks, startAnswer, started, orderChecks, orderAnswer, entered, deleteChecks, deleteAnswer, deleted}
 
 -- A2. Any two outcomes that a promise allows are equal.
@@ -29,6 +34,9 @@ pub record OneAnswer : Type 0 where
   pub of-start : (s : Session) (p : Parameters) (r q : Started) → r ≡ started s p → q ≡ started s p → r ≡ q
   pub of-order : (s : Session) (e : Entry) (r q : Entered) → r ≡ entered s e → q ≡ entered s e → r ≡ q
   pub of-delete : (s : Session) (number member : ℕ) (r q : Deleted) → r ≡ deleted s number member → q ≡ deleted s number member → r ≡ q
+  pub of-auction : (s : Session) (which : ℕ) (list : List ℕ) (r q : AuctionLeaves) → r ≡ auctioned s which list → q ≡ auctioned s which list → r ≡ q
+  pub of-theoretical : (s : Session) (which : ℕ) (r q : Foreseen) → r ≡ theoretical s which → q ≡ theoretical s which → r ≡ q
+  pub of-ranked : (s : Session) (side which : ℕ) (list : List ℕ) (r q : QueueLeaves) → r ≡ queued s side which list → q ≡ queued s side which list → r ≡ q
   pub of-filled-front : (buys sells : List ℕ) (side total : ℕ) (r q : FrontAnswer) → r ≡ filledFront buys sells side total → q ≡ filledFront buys sells side total → r ≡ q
 
 pub one-answer : OneAnswer
@@ -37,6 +45,9 @@ one-answer = record {
   of-start = λ s p r q h k. h ∙ sym k;
   of-order = λ s e r q h k. h ∙ sym k;
   of-delete = λ s number member r q h k. h ∙ sym k;
+  of-auction = λ s which list r q h k. h ∙ sym k;
+  of-theoretical = λ s which r q h k. h ∙ sym k;
+  of-ranked = λ s side which list r q h k. h ∙ sym k;
   of-filled-front = λ buys sells side total r q h k. h ∙ sym k;
 }
 
@@ -72,6 +83,40 @@ pub delete-exactly : (s : Session) (number member : ℕ) → ExactlyWhen (delete
 unfolding deleted
 delete-exactly s number member = exactly (deleteChecks s number member) tt _ (delete-answer (firstHit (deleteChecks s number member)) s number member)
 
+-- .. of the calls that name an auction: where no check hits, it is one
+auction-answer : (n : ℕ) (made : AuctionMade) (s : Session) (list : List ℕ) → (n ≡ 0 → (a : Auction) × (made ≡ AuctionMade.Good a)) → auctionAnswer n made s list .returned .answer ≡ n
+auction-answer (suc n) made s list h = refl
+auction-answer zero made s list h = let (a, i) = h refl in rw i
+
+theoretical-answer : (n : ℕ) (made : AuctionMade) (s : Session) → (n ≡ 0 → (a : Auction) × (made ≡ AuctionMade.Good a)) → theoreticalAnswer n made s .answer ≡ n
+theoretical-answer (suc n) made s h = refl
+theoretical-answer zero made s h = let (a, i) = h refl in rw i
+
+ranked-answer : (n : ℕ) (on : SideMade) (made : AuctionMade) (s : Session) (list : List ℕ)
+    → (n ≡ 0 → ((sd : Side) × (on ≡ SideMade.Good sd)) × ((a : Auction) × (made ≡ AuctionMade.Good a))) → rankedAnswer n on made s list .returned .answer ≡ n
+ranked-answer (suc n) on made s list h = refl
+ranked-answer zero on made s list h = let ((sd, i), (a, j)) = h refl in rw (i, j)
+
+pub auction-exactly : (s : Session) (which : ℕ) (list : List ℕ) → ExactlyWhen (auctioned s which list .returned .answer) (auctionChecks s which (length list))
+unfolding auctioned
+auction-exactly s which list =
+    exactly (auctionChecks s which (length list)) tt _
+    (auction-answer (firstHit (auctionChecks s which (length list))) (auctionOf which) s list
+    (λ h. auction-made which (test-holds (isAuction which) (none-hit (auctionChecks s which (length list)) tt .0 h .0))))
+
+pub theoretical-exactly : (s : Session) (which : ℕ) → ExactlyWhen (theoretical s which .answer) (theoreticalChecks s which)
+unfolding theoretical
+theoretical-exactly s which =
+    exactly (theoreticalChecks s which) tt _
+    (theoretical-answer (firstHit (theoreticalChecks s which)) (auctionOf which) s
+    (λ h. auction-made which (test-holds (isAuction which) (none-hit (theoreticalChecks s which) tt .0 h .0))))
+
+pub ranked-exactly : (s : Session) (side which : ℕ) (list : List ℕ) → ExactlyWhen (queued s side which list .returned .answer) (rankedChecks s side which (length list))
+unfolding queued
+ranked-exactly s side which list =
+    exactly (rankedChecks s side which (length list)) tt _
+    (ranked-answer (firstHit (rankedChecks s side which (length list))) (sideOf side) (auctionOf which) s list (queue-made s side which (length list)))
+
 front-answer : (n : ℕ) (made : SideMade) (buys sells : List ℕ) (total : ℕ) → (n ≡ 0 → (sd : Side) × (made ≡ SideMade.Good sd)) → frontAnswer n made buys sells total .answer ≡ n
 front-answer (suc n) made buys sells total h = refl
 front-answer zero made buys sells total h = let (sd, i) = h refl in rw i
@@ -96,6 +141,16 @@ pub record Rules (s : Session) : Type 0 where
   pub delete-1 : (number member : ℕ) → ruleOf 1 (deleteChecks s number member) ≡ not (isNumber number && isMember member)
   pub delete-2 : (number member : ℕ) → ruleOf 2 (deleteChecks s number member) ≡ not (hasStarted (s .phase))
   pub delete-11 : (number member : ℕ) → ruleOf 11 (deleteChecks s number member) ≡ not (any (isOf number member) (resting (s .book)))
+  pub auction-1 : (which size : ℕ) → ruleOf 1 (auctionChecks s which size) ≡ not (isAuction which)
+  pub auction-2 : (which size : ℕ) → ruleOf 2 (auctionChecks s which size) ≡ not (hasStarted (s .phase))
+  pub auction-4 : (which size : ℕ) → ruleOf 4 (auctionChecks s which size) ≡ not (allowsAuction (s .phase) which)
+  pub auction-12 : (which size : ℕ) → ruleOf 12 (auctionChecks s which size) ≡ ltb size tradeListLength
+  pub theoretical-1 : (which : ℕ) → ruleOf 1 (theoreticalChecks s which) ≡ not (isAuction which)
+  pub theoretical-2 : (which : ℕ) → ruleOf 2 (theoreticalChecks s which) ≡ not (hasStarted (s .phase))
+  pub theoretical-4 : (which : ℕ) → ruleOf 4 (theoreticalChecks s which) ≡ not (allowsAuction (s .phase) which)
+  pub ranked-1 : (side which size : ℕ) → ruleOf 1 (rankedChecks s side which size) ≡ not (isSide side && isAuction which)
+  pub ranked-2 : (side which size : ℕ) → ruleOf 2 (rankedChecks s side which size) ≡ not (hasStarted (s .phase))
+  pub ranked-12 : (side which size : ℕ) → ruleOf 12 (rankedChecks s side which size) ≡ ltb size places
 
 pub rules : (s : Session) → Rules s
 rules s = record {
@@ -113,6 +168,16 @@ rules s = record {
   delete-1 = λ number member. refl;
   delete-2 = λ number member. refl;
   delete-11 = λ number member. refl;
+  auction-1 = λ which size. refl;
+  auction-2 = λ which size. refl;
+  auction-4 = λ which size. refl;
+  auction-12 = λ which size. refl;
+  theoretical-1 = λ which. refl;
+  theoretical-2 = λ which. refl;
+  theoretical-4 = λ which. refl;
+  ranked-1 = λ side which size. refl;
+  ranked-2 = λ side which size. refl;
+  ranked-12 = λ side which size. refl;
 }
 
 -- A5. A refusal changes nothing, every other number is 0, and every part is empty.
@@ -120,13 +185,19 @@ pub record ChangesNothing (s : Session) : Type 0 where
   pub start-refused : (p : Parameters) → started s p .answer ≢ 0 → started s p .session ≡ s
   pub order-refused : (e : Entry) → entered s e .answer ≢ 0 → (entered s e .session ≡ s) × (entered s e .number ≡ 0)
   pub delete-refused : (number member : ℕ) → deleted s number member .answer ≢ 0 → deleted s number member .session ≡ s
+  pub auction-refused : (which : ℕ) (list : List ℕ) → auctioned s which list .returned .answer ≢ 0 → auctioned s which list ≡ auctionRefused (auctioned s which list .returned .answer) s list
+  pub theoretical-refused : (which : ℕ) → theoretical s which .answer ≢ 0 → theoretical s which .result ≡ noAnswer
+  pub ranked-refused : (side which : ℕ) (list : List ℕ) → queued s side which list .returned .answer ≢ 0 → (queued s side which list .list ≡ list) × (queued s side which list .returned .count ≡ 0)
 
 pub changes-nothing : (s : Session) → ChangesNothing s
-unfolding started entered deleted
+unfolding started entered deleted auctioned theoretical queued
 changes-nothing s = record {
   start-refused = λ p. start (firstHit (startChecks s p)) p;
   order-refused = λ e. order (firstHit (orderChecks s e)) e;
   delete-refused = λ number member. delete (firstHit (deleteChecks s number member)) number member;
+  auction-refused = λ which list. auction (firstHit (auctionChecks s which (length list))) (auctionOf which) list;
+  theoretical-refused = λ which. foreseen (firstHit (theoreticalChecks s which)) (auctionOf which);
+  ranked-refused = λ side which list. ranked (firstHit (rankedChecks s side which (length list))) (sideOf side) (auctionOf which) list;
 }
   where
     start : (n : ℕ) (p : Parameters) → startAnswer n s p .answer ≢ 0 → startAnswer n s p .session ≡ s
@@ -140,6 +211,23 @@ changes-nothing s = record {
     delete : (n : ℕ) (number member : ℕ) → deleteAnswer n s number member .answer ≢ 0 → deleteAnswer n s number member .session ≡ s
     delete zero number member h = absurd (h refl)
     delete (suc n) number member h = refl
+
+    auction : (n : ℕ) (made : AuctionMade) (list : List ℕ) → auctionAnswer n made s list .returned .answer ≢ 0 → auctionAnswer n made s list ≡ auctionRefused (auctionAnswer n made s list .returned .answer) s list
+    auction (suc n) made list h = refl
+    auction zero (AuctionMade.Good a) list h = absurd (h refl)
+    auction zero AuctionMade.Refused list h = refl
+
+    foreseen : (n : ℕ) (made : AuctionMade) → theoreticalAnswer n made s .answer ≢ 0 → theoreticalAnswer n made s .result ≡ noAnswer
+    foreseen (suc n) made h = refl
+    foreseen zero (AuctionMade.Good a) h = absurd (h refl)
+    foreseen zero AuctionMade.Refused h = refl
+
+    ranked : (n : ℕ) (on : SideMade) (made : AuctionMade) (list : List ℕ) → rankedAnswer n on made s list .returned .answer ≢ 0
+        → (rankedAnswer n on made s list .list ≡ list) × (rankedAnswer n on made s list .returned .count ≡ 0)
+    ranked (suc n) on made list h = (refl, refl)
+    ranked zero SideMade.Refused made list h = (refl, refl)
+    ranked zero (SideMade.Good sd) AuctionMade.Refused list h = (refl, refl)
+    ranked zero (SideMade.Good sd) (AuctionMade.Good a) list h = absurd (h refl)
 
 pub empty-part : (buys sells : List ℕ) (side total : ℕ) → filledFront buys sells side total .answer ≢ 0 → filledFront buys sells side total .part ≡ []
 unfolding filledFront

@@ -5,26 +5,39 @@ use mathlib.Core.Path.{_≡_, refl, subst}
 use mathlib.Core.List.{List, [], _∷_, _++_, List·Memᴰ·not-nil, List·Memᴰ·cases-cons}
 use native.Mathlib.Omega.{arith}
 use lib.Dec.{ltb}
+use lib.ListN.{length}
 use Rattle.lists.specs.Tests.{tests}
 use Rattle.lists.specs.Sums.{_∈_}
 use Rattle.lists.specs.Ranking.{Ranked}
-use Rattle.terms.specs.declared.orders.{Entry.Entry}
+use Rattle.terms.specs.declared.orders.{Auction.Auction, AuctionMade.AuctionMade, Order.Order, Entry.Entry}
+use Rattle.terms.specs.Orders.{auctionOf}
 use Rattle.terms.specs.declared.parameters.{Parameters.Parameters}
+use Rattle.auction.specs.declared.{Outcome.Outcome, Outcome.the-variants.Traded, Outcome.the-variants.NoTrade, Outcome.the-variants.NonOpening, Outcome.the-variants.Delayed}
 use Rattle.session.specs.declared.{Session.Session}
 use Rattle.session.specs.Checks.{firstHit}
 use Rattle.session.specs.Entry.{freshSession, startChecks, startAnswer, started, orderChecks, orderAnswer, entered, deleteChecks, deleteAnswer, deleted}
+use Rattle.session.specs.Auctions.{part, outcomeOf, sessionAfter, auctionChecks, auctionAnswer, auctioned}
+use Rattle.session.specs.SoundAfter.{auctioned-sound}
 use Rattle.session.specs.Sound.{Sound, fresh-sound, started-sound, entered-sound, deleted-sound}
 
--- a call that may change the session
+-- a call, with all that it is given but the session
 pub data Call : Type 0 where
   start : Parameters → Call
   order : Entry → Call
   delete : ℕ → ℕ → Call
+  auction : ℕ → List ℕ → Call
+  theoretical : ℕ → Call
+  ranked : ℕ → ℕ → List ℕ → Call
+  filledFront : List ℕ → List ℕ → ℕ → ℕ → Call
 
 abbrev pub after : Session → Call → Session
 after s (start p) = started s p .session
 after s (order e) = entered s e .session
 after s (delete number member) = deleted s number member .session
+after s (auction which list) = auctioned s which list .returned .session
+after s (theoretical which) = s
+after s (ranked side which list) = s
+after s (filledFront buys sells side total) = s
 
 -- a list of calls, one after the other
 abbrev pub run : Session → List Call → Session
@@ -39,6 +52,10 @@ pub handed-on : (s : Session) (c : Call) → Sound s → Sound (after s c)
 handed-on s (start p) sound = started-sound s p sound
 handed-on s (order e) sound = entered-sound s e sound
 handed-on s (delete number member) sound = deleted-sound s number member sound
+handed-on s (auction which list) sound = auctioned-sound s which list sound
+handed-on s (theoretical which) sound = sound
+handed-on s (ranked side which list) sound = sound
+handed-on s (filledFront buys sells side total) sound = sound
 
 -- A6. Every session that can be reached is sound.
 run-sound : (s : Session) (cs : List Call) → Sound s → Sound (run s cs)
@@ -57,6 +74,10 @@ abbrev pub gives : Session → Call → List ℕ
 gives s (start p) = []
 gives s (order e) = numberGiven (firstHit (orderChecks s e)) s
 gives s (delete number member) = []
+gives s (auction which list) = []
+gives s (theoretical which) = []
+gives s (ranked side which list) = []
+gives s (filledFront buys sells side total) = []
 
 abbrev pub numbersGiven : Session → List Call → List ℕ
 numbersGiven s [] = []
@@ -83,14 +104,31 @@ given-deleted : (n : ℕ) (s : Session) (number member : ℕ) → deleteAnswer n
 given-deleted zero s number member = refl
 given-deleted (suc n) s number member = refl
 
+given-after : (s : Session) (a : Auction) (book : List Order) (o : Outcome) → sessionAfter s a book o .given ≡ s .given
+given-after s a book (Traded price quantity) = refl
+given-after s a book NoTrade = refl
+given-after s a book NonOpening = refl
+given-after s a book (Delayed price quantity) = refl
+
+given-auctioned : (n : ℕ) (made : AuctionMade) (s : Session) (list : List ℕ) → auctionAnswer n made s list .returned .session .given ≡ s .given
+given-auctioned (suc n) made s list = refl
+given-auctioned zero AuctionMade.Refused s list = refl
+given-auctioned zero (AuctionMade.Good a) s list = given-after s a (part s a) (outcomeOf s a)
+
 numbers-above : (s : Session) (cs : List Call) → Above (s .given) (numbersGiven s cs)
-unfolding started entered deleted
+unfolding started entered deleted auctioned
 numbers-above s [] = ((λ n m. absurd (List·Memᴰ·not-nil m)), tt)
 numbers-above s (start p ∷ cs) =
     subst (λ (n : ℕ). Above n (numbersGiven (started s p .session) cs)) (given-started (firstHit (startChecks s p)) s p) (numbers-above (started s p .session) cs)
 numbers-above s (delete number member ∷ cs) =
     subst (λ (n : ℕ). Above n (numbersGiven (deleted s number member .session) cs)) (given-deleted (firstHit (deleteChecks s number member)) s number member)
     (numbers-above (deleted s number member .session) cs)
+numbers-above s (auction which list ∷ cs) =
+    subst (λ (n : ℕ). Above n (numbersGiven (auctioned s which list .returned .session) cs)) (given-auctioned (firstHit (auctionChecks s which (length list))) (auctionOf which) s list)
+    (numbers-above (auctioned s which list .returned .session) cs)
+numbers-above s (theoretical which ∷ cs) = numbers-above s cs
+numbers-above s (ranked side which list ∷ cs) = numbers-above s cs
+numbers-above s (filledFront buys sells side total ∷ cs) = numbers-above s cs
 numbers-above s (order e ∷ cs) = go (firstHit (orderChecks s e)) (λ t. numbers-above t cs)
   where
     go : (n : ℕ) → ((t : Session) → Above (t .given) (numbersGiven t cs)) → Above (s .given) (numberGiven n s ++ numbersGiven (orderAnswer n s e .session) cs)

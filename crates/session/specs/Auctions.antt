@@ -84,6 +84,9 @@ pub record AuctionLeaves : Type 0 where
   pub returned : Auctioned
   pub list : List ℕ
 
+abbrev pub auctionLeaves : Auctioned → List ℕ → AuctionLeaves
+auctionLeaves returned list = record { returned = returned; list = list }
+
 abbrev pub auctionRefused : ℕ → Session → List ℕ → AuctionLeaves
 auctionRefused n s list = record { returned = record { answer = n; result = noAnswer; session = s }; list = list }
 

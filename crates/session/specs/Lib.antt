@@ -13,3 +13,5 @@ pub mod Exactly
 pub mod Sound
 pub mod Calls
 pub mod QueueCalls
+pub mod AuctionCalls
+pub mod SoundAfter

@@ -50,7 +50,7 @@ not-started PreOpening e = absurd (true≢false e)
 not-started Day e = absurd (true≢false e)
 not-started Closed e = absurd (true≢false e)
 
-test-holds : (b : Bool) → not b ≡ false → T b
+pub test-holds : (b : Bool) → not b ≡ false → T b
 test-holds true e = tt
 test-holds false e = absurd (true≢false e)
 

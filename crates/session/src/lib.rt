@@ -1,5 +1,6 @@
 // A session for one security: phases and the seven public calls, in the words of 01. A session goes in by value and
 // comes back by value. The auction, the theoretical answer and the ranked queue are not there yet.
+mod auctions;
 mod checks;
 
 use book::Book;

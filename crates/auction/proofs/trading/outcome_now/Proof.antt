@@ -1,82 +1,89 @@
+-- The sums of a side are a front of its array, one more than its queue is long.
+use Prim.Native.Nat.{ℕ, _+_}
+use mathlib.Core.Path.{_≡_, sym}
+use mathlib.Core.List.{List}
 use native.Mathlib.Omega.{arith}
 use borrow.Author.Needs.{needs}
+use lib.ListN.{length, take}
+use lib.Seq.{length-take-le}
+use Rattle.auction.specs.Composed.{outcome-composed}
 use Rattle.auction.proofs.trading.outcome_now.Statement.{statement}
 use Rattle.auction.proofs.trading.outcome_now.Tie as tie
-use Rattle.auction.proofs.trading.outcome_now.Reads as reads
-use Rattle.auction.proofs.trading.outcome_now.Lts as lts
-use Rattle.auction.proofs.decide.outcome_of.Reads as outcome-of-reads
-use Rattle.price.proofs.searched.Reads as searched-reads
-use Rattle.price.proofs.sum_below.Reads as sum-below-reads
-use Rattle.queue.proofs.rank_bound.Reads as rank-bound-reads
-use Rattle.queue.proofs.sum_up.Reads as sum-up-reads
 
--- src/trading.rt:42:32
+abbrev buys : tie.After-sum-up → List ℕ
+buys c = c .before .before .before .before .args .buys .now
+
+abbrev sells : tie.After-sum-up2 → List ℕ
+sells c = c .before .before .before .before .before .before .before .args .sells .now
+
+abbrev demands : tie.After-sum-up → List ℕ
+demands c = take (length (buys c) + 1) (c .sum-up .last .1 .1 .0)
+
+abbrev supplies : tie.After-sum-up2 → List ℕ
+supplies c = take (length (sells c) + 1) (c .sum-up2 .last .1 .1 .0)
+
+demands-long : (c : tie.After-sum-up) → length (demands c) ≡ length (buys c) + 1
+demands-long c = length-take-le (length (buys c) + 1) (c .sum-up .last .1 .1 .0) (omega (arith, c .sum-up .kept .1 .1 .0, c .before .before .before .before .pre .1))
+
+supplies-long : (c : tie.After-sum-up2) → length (supplies c) ≡ length (sells c) + 1
+supplies-long c = length-take-le (length (sells c) + 1) (c .sum-up2 .last .1 .1 .0) (omega (arith, c .sum-up2 .kept .1 .1 .0, c .before .before .before .before .before .before .before .pre .3))
+
 slice-aggregate-sum-up : tie.Need-slice-aggregate-sum-up
 slice-aggregate-sum-up c = search needs
 
--- src/trading.rt:42:5
 sum-up-requires : tie.Need-sum-up-requires
 sum-up-requires c κs = search needs
 
--- src/trading.rt:43:33
 slice-aggregate-sum-up-2 : tie.Need-slice-aggregate-sum-up-2
 slice-aggregate-sum-up-2 c = search needs
 
--- src/trading.rt:43:5
 sum-up-requires-2 : tie.Need-sum-up-requires-2
 sum-up-requires-2 c κs = search needs
 
--- src/trading.rt:44:32
 add-buy-room : tie.Need-add-buy-room
 add-buy-room c = search needs
 
--- src/trading.rt:44:20
 array-share-prefix-buy-room : tie.Need-array-share-prefix-buy-room
 array-share-prefix-buy-room c = search needs
 
--- src/trading.rt:44:9
 slice-aggregate-buy-sums : tie.Need-slice-aggregate-buy-sums
-slice-aggregate-buy-sums c = search needs
+slice-aggregate-buy-sums c = sym (demands-long (c .before .before .before .before .before))
 
--- src/trading.rt:45:34
 add-sell-room : tie.Need-add-sell-room
 add-sell-room c = search needs
 
--- src/trading.rt:45:21
 array-share-prefix-sell-room : tie.Need-array-share-prefix-sell-room
 array-share-prefix-sell-room c = search needs
 
--- src/trading.rt:45:9
 slice-aggregate-sell-sums : tie.Need-slice-aggregate-sell-sums
-slice-aggregate-sell-sums c = search needs
+slice-aggregate-sell-sums c = sym (supplies-long (c .before .before .before))
 
--- src/trading.rt:46:9
 searched-requires : tie.Need-searched-requires
-searched-requires c κs = search needs
+searched-requires c κs = (c .before .before .before .before .before .before .before .before .before .before .pre .0, omega (arith, demands-long (c .before .before .before .before .before .before)), c .before .before .before .before .before .before .before .before .before .before .pre .2, omega (arith, supplies-long (c .before .before .before)))
 
--- src/trading.rt:48:9
 rank-bound-requires : tie.Need-rank-bound-requires
 rank-bound-requires c κs = search needs
 
--- src/trading.rt:47:9
 sum-below-requires : tie.Need-sum-below-requires
-sum-below-requires c κs = search needs
+sum-below-requires c κs = (c .before .before .before .before .before .before .before .before .before .before .before .before .pre .0, omega (arith, demands-long (c .before .before .before .before .before .before .before .before)))
 
--- src/trading.rt:53:9
 rank-bound-requires-2 : tie.Need-rank-bound-requires-2
 rank-bound-requires-2 c κs = search needs
 
--- src/trading.rt:52:9
 sum-below-requires-2 : tie.Need-sum-below-requires-2
-sum-below-requires-2 c κs = search needs
+sum-below-requires-2 c κs = (c .before .before .before .before .before .before .before .before .before .before .before .before .before .before .pre .2, omega (arith, supplies-long (c .before .before .before .before .before .before .before)))
 
--- src/trading.rt:57:5
 outcome-of-requires : tie.Need-outcome-of-requires
 outcome-of-requires c κs = search needs
 
--- src/trading.rt:27:1
 returns : tie.Need-returns
-returns c = search needs
+returns c =
+    let d = c .before .before .before .before .before .before .before .before .before .before .before .before in
+    let s = c .before .before .before .before .before .before .before .before .before in
+    let a = c .before .before .before .before .before .before .before .before .before .before .before .before .before .before .before .before .args in
+    outcome-composed (a .auction) (a .delayed) (a .threshold) (a .reference) (a .limits .now) (a .lefts .now) (buys d) (sells s) (demands d) (supplies s) (d .sum-up .ensures) (s .sum-up2 .ensures)
+    (c .before .before .before .before .before .searched .result) (c .before .before .before .before .before .searched .ensures) (c .before .before .before .before .rank-bound .result) (c .before .before .before .before .rank-bound .ensures) (c .before .before .before .sum-below .result) (c .before .before .before .sum-below .ensures)
+    (c .before .before .rank-bound2 .result) (c .before .before .rank-bound2 .ensures) (c .before .sum-below2 .result) (c .before .sum-below2 .ensures) (c .outcome-of .result) (c .outcome-of .ensures)
 
 pub outcome-now-spec : {M : Type 1} → statement M
 outcome-now-spec =

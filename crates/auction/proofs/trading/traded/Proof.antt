@@ -1,97 +1,107 @@
+-- The shares of a side are a front of its array, no longer than its queue. What rests is as long as the column it starts from.
+use Prim.Native.Nat.{ℕ}
+use mathlib.Core.Path.{_≡_, sym}
+use mathlib.Core.List.{List}
 use native.Mathlib.Omega.{arith}
 use borrow.Author.Needs.{needs}
+use lib.ListN.{length, take}
+use lib.Seq.{length-take-le}
+use Rattle.auction.specs.Composed.{few-trades, trades-composed, rests-composed}
 use Rattle.auction.proofs.trading.traded.Statement.{statement}
 use Rattle.auction.proofs.trading.traded.Tie as tie
-use Rattle.auction.proofs.trading.traded.Reads as reads
-use Rattle.auction.proofs.trading.traded.Lts as lts
-use Rattle.auction.proofs.after.settled.Reads as settled-reads
-use Rattle.auction.proofs.pairing.pair.Reads as pair-reads
-use Rattle.queue.proofs.lessen.Reads as lessen-reads
-use Rattle.queue.proofs.share_out.Reads as share-out-reads
 
--- src/trading.rt:111:58
+abbrev bought : tie.After-share-out → List ℕ
+bought c = take (c .share-out .result) (c .share-out .last .1 .1 .1 .0)
+
+abbrev sold : tie.After-share-out2 → List ℕ
+sold c = take (c .share-out2 .result) (c .share-out2 .last .1 .1 .1 .0)
+
+bids-long : (c : tie.After-share-out) → length (bought c) ≡ c .share-out .result
+bids-long c = length-take-le (c .share-out .result) (c .share-out .last .1 .1 .1 .0) (omega (arith, c .share-out .kept .1 .1 .1 .0, c .share-out .ensures .0, c .before .before .before .before .before .before .before .pre .0))
+
+asks-long : (c : tie.After-share-out2) → length (sold c) ≡ c .share-out2 .result
+asks-long c = length-take-le (c .share-out2 .result) (c .share-out2 .last .1 .1 .1 .0) (omega (arith, c .share-out2 .kept .1 .1 .1 .0, c .share-out2 .ensures .0, c .before .before .before .before .before .before .before .before .before .before .before .before .pre .1))
+
+left-long : (c : tie.Start) → length (c .args .t1 .left) ≡ 512
+left-long c = search needs
+
 slice-aggregate-share-out : tie.Need-slice-aggregate-share-out
 slice-aggregate-share-out c = search needs
 
--- src/trading.rt:111:9
 share-out-requires : tie.Need-share-out-requires
 share-out-requires c κs = search needs
 
--- src/trading.rt:112:59
 slice-aggregate-share-out-2 : tie.Need-slice-aggregate-share-out-2
 slice-aggregate-share-out-2 c = search needs
 
--- src/trading.rt:112:9
 share-out-requires-2 : tie.Need-share-out-requires-2
 share-out-requires-2 c κs = search needs
 
--- src/trading.rt:118:9
 array-share-prefix-bought : tie.Need-array-share-prefix-bought
 array-share-prefix-bought c = search needs
 
--- src/trading.rt:118:9
 slice-aggregate-pair : tie.Need-slice-aggregate-pair
-slice-aggregate-pair c = search needs
+slice-aggregate-pair c = sym (bids-long (c .before .before .before .before .before .before .before .before .before .before))
 
--- src/trading.rt:120:9
 array-share-prefix-sold : tie.Need-array-share-prefix-sold
 array-share-prefix-sold c = search needs
 
--- src/trading.rt:120:9
 slice-aggregate-pair-2 : tie.Need-slice-aggregate-pair-2
-slice-aggregate-pair-2 c = search needs
+slice-aggregate-pair-2 c = sym (asks-long (c .before .before .before .before .before .before))
 
--- src/trading.rt:113:9
 pair-requires : tie.Need-pair-requires
-pair-requires c κs = search needs
+pair-requires c κs =
+    let b = c .before .before .before .before .before .before .before .before .before .before .before in
+    let s = c .before .before .before .before .before .before in
+    let few = b .share-out .ensures .0 in
+    let few' = s .share-out2 .ensures .0 in
+    (omega (arith, bids-long b, few), omega (arith, asks-long s, few'), omega (arith, bids-long b, asks-long s, few, few', c .before .before .before .before .before .before .before .before .before .before .before .before .before .before .before .before .before .before .pre))
 
--- src/trading.rt:123:19
 slice-aggregate-lessen : tie.Need-slice-aggregate-lessen
-slice-aggregate-lessen c = search needs
+slice-aggregate-lessen c = sym (left-long (c .before .before .before .before .before .before .before .before .before .before .before .before .before .before .before .before .before .before .before .before .before .before .before))
 
--- src/trading.rt:123:37
 array-share-prefix-bought-2 : tie.Need-array-share-prefix-bought-2
 array-share-prefix-bought-2 c = search needs
 
--- src/trading.rt:123:37
 slice-aggregate-lessen-2 : tie.Need-slice-aggregate-lessen-2
-slice-aggregate-lessen-2 c = search needs
+slice-aggregate-lessen-2 c = sym (bids-long (c .before .before .before .before .before .before .before .before .before .before .before .before .before .before .before .before .before))
 
--- src/trading.rt:123:5
 lessen-requires : tie.Need-lessen-requires
-lessen-requires c κs = search needs
+lessen-requires c κs = (omega (arith, left-long (c .before .before .before .before .before .before .before .before .before .before .before .before .before .before .before .before .before .before .before .before .before .before .before .before)), omega (arith, bids-long (c .before .before .before .before .before .before .before .before .before .before .before .before .before .before .before .before .before), c .before .before .before .before .before .before .before .before .before .before .before .before .before .before .before .before .before .share-out .ensures .0))
 
--- src/trading.rt:124:19
 slice-aggregate-lessen-3 : tie.Need-slice-aggregate-lessen-3
 slice-aggregate-lessen-3 c = search needs
 
--- src/trading.rt:124:38
 array-share-prefix-sold-2 : tie.Need-array-share-prefix-sold-2
 array-share-prefix-sold-2 c = search needs
 
--- src/trading.rt:124:38
 slice-aggregate-lessen-4 : tie.Need-slice-aggregate-lessen-4
-slice-aggregate-lessen-4 c = search needs
+slice-aggregate-lessen-4 c = sym (asks-long (c .before .before .before .before .before .before .before .before .before .before .before .before .before .before .before .before))
 
--- src/trading.rt:124:5
 lessen-requires-2 : tie.Need-lessen-requires-2
-lessen-requires-2 c κs = search needs
+lessen-requires-2 c κs = (omega (arith, c .before .before .before .lessen .kept .0, left-long (c .before .before .before .before .before .before .before .before .before .before .before .before .before .before .before .before .before .before .before .before .before .before .before .before .before .before .before .before)), omega (arith, asks-long (c .before .before .before .before .before .before .before .before .before .before .before .before .before .before .before .before), c .before .before .before .before .before .before .before .before .before .before .before .before .before .before .before .before .share-out2 .ensures .0))
 
--- src/trading.rt:125:9
 settled-requires : tie.Need-settled-requires
 settled-requires c κs = search needs
 
--- src/trading.rt:128:16
 cast-t41 : tie.Need-cast-t41
-cast-t41 c = search needs
+cast-t41 c =
+    let b = c .before .before .before .before .before .before .before .before .before .before .before .before .before .before .before .before .before .before .before .before .before .before .before .before .before in
+    let s = c .before .before .before .before .before .before .before .before .before .before .before .before .before .before .before .before .before .before .before .before in
+    let a = c .before .before .before .before .before .before .before .before .before .before .before .before .before .before .before .before .before .before .before .before .before .before .before .before .before .before .before .before .before .before .before .before .args in
+    omega (arith, c .before .before .before .before .before .before .before .before .before .before .before .before .before .pair .ensures .0, few-trades (a .t1 .number) (a .buys .now) (bought b) (a .sells .now) (sold s), bids-long b, asks-long s, b .share-out .ensures .0, s .share-out2 .ensures .0, c .before .before .before .before .before .before .before .before .before .before .before .before .before .before .before .before .before .before .before .before .before .before .before .before .before .before .before .before .before .before .before .before .pre)
 
--- src/trading.rt:97:1
 same-length : tie.Need-same-length
 same-length c = search needs
 
--- src/trading.rt:97:1
 returns : tie.Need-returns
-returns c = search needs
+returns c =
+    let b = c .before .before .before .before .before .before .before .before .before .before .before .before .before .before .before .before .before .before .before .before .before .before .before .before .before in
+    let s = c .before .before .before .before .before .before .before .before .before .before .before .before .before .before .before .before .before .before .before .before in
+    let a = c .before .before .before .before .before .before .before .before .before .before .before .before .before .before .before .before .before .before .before .before .before .before .before .before .before .before .before .before .before .before .before .before .args in
+    let trades = trades-composed (a .quantity) (a .t1 .number) (a .t1 .left) (a .buys .now) (a .sells .now) (bought b) (sold s) (b .share-out .ensures .1) (s .share-out2 .ensures .1) in
+    let rests = rests-composed (a .quantity) (a .t1 .left) (a .buys .now) (a .sells .now) (bought b) (sold s) (b .share-out .ensures .1) (s .share-out2 .ensures .1) in
+    (rw (← trades) (c .before .before .before .before .before .before .before .before .before .before .before .before .before .pair .ensures .0), rw (← rests, c .settled .ensures, c .before .before .before .lessen2 .ensures, c .before .before .before .before .before .before .before .lessen .ensures), rw (← trades) (c .before .before .before .before .before .before .before .before .before .before .before .before .before .pair .ensures .1))
 
 pub traded-spec : {M : Type 1} → statement M
 traded-spec =

@@ -1,0 +1,51 @@
+-- An auction as its functions compose it: what they find step by step is its outcome, its trades and what rests.
+use Prim.Native.Nat.{ℕ, zero, suc, _+_, _≤_, min}
+use mathlib.Core.Bool.{Bool}
+use mathlib.Core.Path.{_≡_}
+use mathlib.Core.List.{List, [], _∷_}
+use native.Mathlib.Omega.{arith}
+use lib.ListN.{length}
+use Rattle.terms.specs.declared.orders.{Side.the-variants.Buy, Side.the-variants.Sell, Auction.Auction}
+use Rattle.queue.specs.Ranks.{rankBound, along}
+use Rattle.queue.specs.Shares.{lessened}
+use Rattle.price.specs.declared.search.{Found.Found}
+use Rattle.price.specs.Search.{sumBelow, offered, searchedIn}
+use Rattle.auction.specs.declared.{Outcome.Outcome}
+use Rattle.auction.specs.Decided.{outcomeFrom}
+use Rattle.auction.specs.Fronts.{sharePairs, numbersLeft, sharesLeft, numbersOf, pairedShares}
+use Rattle.auction.specs.Trading.{sumsOf, sharesIn, outcomeIn, tradesIn, restsIn}
+
+-- There are no more trades than shares.
+few-pairs : (k : ℕ) (bn bq sn sq : List ℕ) → length (sharePairs k bn bq sn sq) ≤ k
+unfolding sharePairs
+few-pairs zero bn bq sn sq = omega arith
+few-pairs (suc k) [] bq sn sq = omega arith
+few-pairs (suc k) (b ∷ bn) [] sn sq = omega arith
+few-pairs (suc k) (b ∷ bn) (x ∷ bq) [] sq = omega arith
+few-pairs (suc k) (b ∷ bn) (x ∷ bq) (s ∷ sn) [] = omega arith
+few-pairs (suc k) (b ∷ bn) (x ∷ bq) (s ∷ sn) (y ∷ sq) =
+    omega (arith, few-pairs k (numbersLeft (min x y) x b bn) (sharesLeft (min x y) x bq) (numbersLeft (min x y) y s sn) (sharesLeft (min x y) y sq))
+
+pub few-trades : (numbers buys bought sells sold : List ℕ) → length (pairedShares numbers buys bought sells sold) ≤ length bought + length sold
+few-trades numbers buys bought sells sold = few-pairs (length bought + length sold) (numbersOf numbers buys) bought (numbersOf numbers sells) sold
+
+-- Of shares found, the trades and the rests.
+pub trades-composed : (quantity : ℕ) (numbers lefts buys sells bought sold : List ℕ) → bought ≡ sharesIn quantity lefts buys → sold ≡ sharesIn quantity lefts sells
+    → pairedShares numbers buys bought sells sold ≡ tradesIn quantity numbers lefts buys sells
+unfolding tradesIn
+trades-composed quantity numbers lefts buys sells bought sold b s = rw (b, s)
+
+pub rests-composed : (quantity : ℕ) (lefts buys sells bought sold : List ℕ) → bought ≡ sharesIn quantity lefts buys → sold ≡ sharesIn quantity lefts sells
+    → lessened sells sold (lessened buys bought lefts) ≡ restsIn quantity lefts buys sells
+unfolding restsIn
+rests-composed quantity lefts buys sells bought sold b s = rw (b, s)
+
+-- Of sums found, the outcome: by the search, and by the unlimited quantity of each side.
+pub outcome-composed : (a : Auction) (delayed : Bool) (threshold reference : ℕ) (limits lefts buys sells demands supplies : List ℕ) → demands ≡ sumsOf lefts buys → supplies ≡ sumsOf lefts sells
+    → (found : Found) → found ≡ searchedIn reference (offered Buy buys demands) (offered Sell sells supplies) (along limits buys) (along limits sells)
+    → (bid : ℕ) → bid ≡ rankBound Buy 0 → (unlimited : ℕ) → unlimited ≡ sumBelow bid buys demands
+    → (ask : ℕ) → ask ≡ rankBound Sell 0 → (unlimited' : ℕ) → unlimited' ≡ sumBelow ask sells supplies
+    → (r : Outcome) → r ≡ outcomeFrom a delayed threshold reference found unlimited unlimited'
+    → r ≡ outcomeIn a delayed threshold reference limits lefts buys sells
+unfolding outcomeIn
+outcome-composed a delayed threshold reference limits lefts buys sells demands supplies d s found f bid e unlimited u ask e' unlimited' u' r o = rw (o, f, u, u', e, e', d, s)

@@ -1,0 +1,183 @@
+-- The outcome of a sound book, told by the ranks of its queues and the sums along them.
+use Prim.Native.Nat.{ℕ, zero, suc, _+_, _≤_, _<_}
+use mathlib.Core.Bool.{Bool}
+use mathlib.Core.Option.{some}
+use mathlib.Core.Logic.{_⊎_, inl, inr}
+use mathlib.Core.Path.{_≡_, refl, sym, ap, _∙_}
+use mathlib.Core.List.{List, [], _∷_, map, map-map, map-congr-left, Memᴰ·map, Memᴰ·of-map, List·Memᴰ·head, List·Memᴰ·tail, List·Memᴰ·not-nil}
+use native.Mathlib.Omega.{arith}
+use lib.Dec.{T, leb, ltb}
+use lib.ListN.{length, getD, take, length-map}
+use lib.Seq.{take-all}
+use Rattle.lists.specs.Tests.{tests, and-both}
+use Rattle.lists.specs.Sums.{_∈_}
+use Rattle.terms.specs.Bounds.{maxPrice, maxNumber}
+use Rattle.terms.specs.Kinds.{isPrice, isMultiple, isReference}
+use Rattle.terms.specs.Orders.{limitNumber, limitFrom}
+use Rattle.terms.specs.declared.orders.{Side.Side, Side.the-variants.Buy, Side.the-variants.Sell, Auction.Auction, Limit.Limit, Limit.the-variants.Unlimited, Limit.the-variants.At, Order.Order}
+use Rattle.book.specs.declared.Book.{Book}
+use Rattle.book.specs.Columns.{orderAt}
+use Rattle.book.specs.Resting.{resting}
+use Rattle.book.specs.Sound.{SoundBook}
+use Rattle.queue.specs.Part.{takingPart, takingPart-elim, takingPart-distinct}
+use Rattle.queue.specs.Distinct.{Distinct}
+use Rattle.queue.specs.Rank.{onSide, ranked, ranked-elim, ranked-intro}
+use Rattle.queue.specs.Ranks.{limitRoom, placeOfRank, rankBound, along}
+use Rattle.queue.specs.Shares.{sumsFrom}
+use Rattle.queue.specs.Reach.{resting-sound, resting-distinct}
+use Rattle.queue.specs.Queue.{allows-below, unlimited-below, ranks-known, ranked-by-ranks}
+use Rattle.price.specs.declared.search.{Found.Found}
+use Rattle.price.specs.Interest.{interest, demand, supply}
+use Rattle.price.specs.Candidates.{addLimit, limits, candidates, mostExecutable}
+use Rattle.price.specs.Chain.{auctionPrice}
+use Rattle.price.specs.Search.{offered, searchedIn}
+use Rattle.price.specs.Ladder.{sum-below-front, offered-is-interest}
+use Rattle.price.specs.Searched.{searched-most, searched-price}
+use Rattle.auction.specs.Fills.{queue-left}
+use Rattle.auction.specs.NonOpening.{unlimited-front}
+use Rattle.auction.specs.Outcome.{isUnlimited, unlimited, outcome}
+use Rattle.auction.specs.Decided.{decided}
+use Rattle.auction.specs.Trading.{ranksOn, sumsOf, unlimitedIn, outcomeIn}
+
+sums-length : (total : ℕ) (xs : List ℕ) → length (sumsFrom total xs) ≡ suc (length xs)
+unfolding sumsFrom
+sums-length total [] = refl
+sums-length total (x ∷ xs) = ap suc (sums-length (total + x) xs)
+
+number-from : (l : ℕ) → l ≡ limitNumber (limitFrom l)
+number-from zero = refl
+number-from (suc l) = refl
+
+-- the limits of a book are those of its orders ..
+limits-elim : (book : List Order) {p : ℕ} → p ∈ limits book → (o : Order) × (o ∈ book) × (o .limit ≡ At p)
+limits-elim [] m = absurd (List·Memᴰ·not-nil m)
+limits-elim (o ∷ os) {p} m = go (o .limit) refl (limits-elim os) m
+  where
+    go : (w : Limit) → o .limit ≡ w → (p ∈ limits os → (x : Order) × (x ∈ os) × (x .limit ≡ At p)) → p ∈ addLimit w (limits os) → (x : Order) × (x ∈ (o ∷ os)) × (x .limit ≡ At p)
+    go Unlimited e below m = let (x, n, i) = below m in (x, List·Memᴰ·tail n, i)
+    go (At l) e below (List·Memᴰ·head i) = (o, List·Memᴰ·head refl, e ∙ ap At (sym i))
+    go (At l) e below (List·Memᴰ·tail m) = let (x, n, i) = below m in (x, List·Memᴰ·tail n, i)
+
+limits-intro : (book : List Order) {o : Order} {p : ℕ} → o ∈ book → o .limit ≡ At p → p ∈ limits book
+limits-intro [] m e = absurd (List·Memᴰ·not-nil m)
+limits-intro (x ∷ xs) {o} {p} (List·Memᴰ·head i) e = let l : x .limit ≡ At p = ap (λ (y : Order). y .limit) (sym i) ∙ e in rw l (List·Memᴰ·head refl)
+limits-intro (x ∷ xs) {o} {p} (List·Memᴰ·tail m) e = later (x .limit) (limits-intro xs m e)
+  where
+    later : (w : Limit) → p ∈ limits xs → p ∈ addLimit w (limits xs)
+    later Unlimited n = n
+    later (At l) n = List·Memᴰ·tail n
+
+-- .. and so are their numbers, but for 0, which is none
+number-listed : (book : List Order) {o : Order} → o ∈ book → (p : ℕ) → limitNumber (o .limit) ≡ p → (p ≡ 0) ⊎ (p ∈ limits book)
+number-listed book {o} m p i = go (o .limit) refl i
+  where
+    go : (w : Limit) → o .limit ≡ w → limitNumber w ≡ p → (p ≡ 0) ⊎ (p ∈ limits book)
+    go Unlimited e i = inl (sym i)
+    go (At l) e i = inr (limits-intro book m (e ∙ ap At i))
+
+-- a price has room in a rank
+price-room : (step p : ℕ) → T (isReference step p) → (0 < p) × (p < limitRoom)
+price-room step p h =
+    let price = and-both (isPrice p) (isMultiple step p) h .0 in
+    let (low, high) = and-both (leb 1 p) (leb p maxPrice) price in
+    (omega tests, omega tests)
+
+module _ (step given : ℕ) (b : Book) (sound : SoundBook step given b) (few : given ≤ maxNumber) (a : Auction) where
+  abbrev part : List Order
+  part = takingPart a (resting b)
+
+  abbrev orderOf : ℕ → Order
+  orderOf r = orderAt b (placeOfRank r)
+
+  distinct : Distinct part
+  distinct = takingPart-distinct a (resting b) (resting-distinct step given b sound)
+
+  -- A side: what it offers at a price, and its limits under their numbers.
+  module _ (s : Side) where
+    abbrev sums : List ℕ
+    sums = sumsOf (b .left) (ranksOn b a s)
+
+    abbrev offers : ℕ → ℕ
+    offers p = offered s (ranksOn b a s) sums p
+
+    abbrev entries : List ℕ
+    entries = along (b .limit) (ranksOn b a s)
+
+    queue : map orderOf (ranksOn b a s) ≡ ranked s part
+    queue = ranked-by-ranks step given b sound few s a
+
+    sums-whole : take (length (ranksOn b a s) + 1) sums ≡ sums
+    sums-whole =
+        take-all (length (ranksOn b a s) + 1) sums
+        (omega (arith, sums-length 0 (along (b .left) (ranksOn b a s)), length-map (ranksOn b a s) (λ r. getD (b .left) (placeOfRank r) 0)))
+
+    unlimited-on : unlimitedIn s (b .left) (ranksOn b a s) ≡ unlimited s part
+    unlimited-on =
+        sum-below-front (λ o. isUnlimited (o .limit)) (rankBound s 0) orderOf (ranksOn b a s) sums sums-whole
+        (λ r m. let k = ranks-known step given b sound few s a r m in
+        ap (λ (x : ℕ). ltb x (rankBound s 0)) (k .is) ∙ unlimited-below step given b sound few s (placeOfRank r) (k .here) (k .taken))
+        (rw queue (unlimited-front s part distinct))
+        ∙ rw queue (queue-left s (λ o. isUnlimited (o .limit)) part)
+
+    offered-on : (p : ℕ) → (0 < p) × (p < limitRoom) → offers p ≡ interest s p part
+    offered-on p (low, high) =
+        offered-is-interest s p part distinct orderOf (ranksOn b a s) sums queue sums-whole
+        (λ r m. let k = ranks-known step given b sound few s a r m in
+        ap (λ (x : ℕ). ltb x (rankBound s p)) (k .is) ∙ allows-below step given b sound few s (placeOfRank r) (k .here) (k .taken) p low high)
+
+    entries-on : entries ≡ map (λ o. limitNumber (o .limit)) (ranked s part)
+    entries-on =
+        map-congr-left {l = ranksOn b a s} (λ r m. number-from (getD (b .limit) (placeOfRank r) 0))
+        ∙ sym (map-map (λ (o : Order). limitNumber (o .limit)) orderOf (ranksOn b a s))
+        ∙ ap (map (λ (o : Order). limitNumber (o .limit))) queue
+
+    -- each is 0 or a limit of the orders taking part, and those of the side are all there
+    entries-known : (p : ℕ) → p ∈ entries → (p ≡ 0) ⊎ (p ∈ limits part)
+    entries-known p m =
+        let (o, n, i) = Memᴰ·of-map (λ (o : Order). limitNumber (o .limit)) (ranked s part) (rw entries-on at m) in
+        number-listed part (ranked-elim s part n .0) p i
+
+    entered : (p : ℕ) (o : Order) → o ∈ part → T (onSide s o) → o .limit ≡ At p → p ∈ entries
+    entered p o m on e = rw entries-on (rw e at (Memᴰ·map (λ (x : Order). limitNumber (x .limit)) (ranked-intro s m on)))
+
+  all-entered : (p : ℕ) → p ∈ limits part → (p ∈ entries Buy) ⊎ (p ∈ entries Sell)
+  all-entered p m = let (o, n, e) = limits-elim part m in go o n e (o .side) refl
+    where
+      go : (o : Order) → o ∈ part → o .limit ≡ At p → (t : Side) → o .side ≡ t → (p ∈ entries Buy) ⊎ (p ∈ entries Sell)
+      go o n e Buy i = inl (entered Buy p o n (rw i tt) e)
+      go o n e Sell i = inr (entered Sell p o n (rw i tt) e)
+
+  -- they are prices, since the book is sound
+  limit-room : (p : ℕ) → p ∈ limits part → (0 < p) × (p < limitRoom)
+  limit-room p m =
+      let (o, n, e) = limits-elim part m in
+      price-room step p (rw e at (resting-sound step given b sound o (takingPart-elim a (resting b) n .0) .legal))
+
+  no-zero : 0 ∈ limits part → ⊥
+  no-zero m = let (low, high) = limit-room 0 m in omega arith
+
+  -- With a reference price every candidate is a price, and the search finds what the definition says.
+  module _ (reference : ℕ) (legal : T (isReference step reference)) where
+    candidate-room : (p : ℕ) → p ∈ candidates reference part → (0 < p) × (p < limitRoom)
+    candidate-room p (List·Memᴰ·head e) = rw e (price-room step reference legal)
+    candidate-room p (List·Memᴰ·tail m) = limit-room p m
+
+    offered-both : (p : ℕ) → p ∈ candidates reference part → (offers Buy p ≡ demand part p) × (offers Sell p ≡ supply part p)
+    offered-both p m = (offered-on Buy p (candidate-room p m), offered-on Sell p (candidate-room p m))
+
+    abbrev found : Found
+    found = searchedIn reference (offers Buy) (offers Sell) (entries Buy) (entries Sell)
+
+    found-most : found .most ≡ mostExecutable reference part
+    found-most = searched-most reference part (offers Buy) (offers Sell) (entries Buy) (entries Sell) offered-both (entries-known Buy) (entries-known Sell) all-entered no-zero
+
+    found-price : 0 < mostExecutable reference part → auctionPrice reference part ≡ some (found .price)
+    found-price = searched-price reference part (offers Buy) (offers Sell) (entries Buy) (entries Sell) offered-both (entries-known Buy) (entries-known Sell) all-entered no-zero
+
+  -- The outcome is that of the definition.
+  pub outcome-in : (delayed : Bool) (threshold reference : ℕ) → T (isReference step reference)
+      → outcomeIn a delayed threshold reference (b .limit) (b .left) (ranksOn b a Buy) (ranksOn b a Sell) ≡ outcome a delayed threshold reference (takingPart a (resting b))
+  unfolding outcomeIn
+  outcome-in delayed threshold reference legal =
+      decided a delayed threshold reference part (found reference legal) (unlimitedIn Buy (b .left) (ranksOn b a Buy)) (unlimitedIn Sell (b .left) (ranksOn b a Sell))
+      (found-most reference legal) (found-price reference legal) (unlimited-on Buy) (unlimited-on Sell)

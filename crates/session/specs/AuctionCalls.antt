@@ -1,0 +1,144 @@
+-- The auction and the theoretical answer from what their code learns on the way, for the promises of `auction` and `theoretical`.
+use Prim.Native.Nat.{ℕ, zero, suc, _*_, _≤_}
+use mathlib.Core.Bool.{true, not}
+use mathlib.Core.Logic.{_≢_}
+use mathlib.Core.Path.{_≡_, refl, sym, ap, _∙_}
+use mathlib.Core.List.{List, [], _++_}
+use native.Mathlib.Omega.{arith}
+use borrow.Author.Tests.{ltb-false}
+use lib.Dec.{T}
+use lib.ListN.{length, drop}
+use Rattle.terms.specs.Bounds.{places, numbersPerTrade, tradeListLength}
+use Rattle.terms.specs.Orders.{isAuction, auctionOf}
+use Rattle.terms.specs.Made.{auction-made}
+use Rattle.terms.specs.declared.orders.{Side.Side, Side.the-variants.Buy, Side.the-variants.Sell, Auction.Auction, AuctionMade.AuctionMade, Order.Order}
+use Rattle.book.specs.declared.Book.{Book}
+use Rattle.book.specs.Resting.{changed}
+use Rattle.price.specs.Interest.{interest, executable}
+use Rattle.auction.specs.declared.{Trade.Trade, Outcome.Outcome, Outcome.the-variants.Traded, Outcome.the-variants.NoTrade, Outcome.the-variants.NonOpening, Outcome.the-variants.Delayed}
+use Rattle.auction.specs.Fills.{tradesOf, trades-none}
+use Rattle.auction.specs.Outcome.{outcome, outcome-traded}
+use Rattle.auction.specs.After.{restOf}
+use Rattle.auction.specs.Settled.{settled}
+use Rattle.auction.specs.Trading.{ranksOn, tradesIn, restsIn}
+use Rattle.auction.specs.TradesIn.{trades-in, rests-in}
+use Rattle.auction.specs.Written.{quadruples, written}
+use Rattle.session.specs.declared.{Session.Session, AuctionAnswer.AuctionAnswer, Auctioned.Auctioned, Foreseen.Foreseen}
+use Rattle.session.specs.Phases.{hasStarted, phaseAfter}
+use Rattle.session.specs.Checks.{firstHit}
+use Rattle.session.specs.Exactly.{none-hit}
+use Rattle.session.specs.Sound.{Sound, test-holds}
+use Rattle.session.specs.Auctions.{part, outcomeOf, answerOf, auctionChecks, auctionLeaves, auctionRefused, auctionDone, auctionAnswer, auctioned, theoreticalChecks, theoreticalAnswer, theoretical, noAnswer}
+
+-- the four numbers of an outcome with its trades counted
+abbrev pub answerWith : Outcome → ℕ → AuctionAnswer
+answerWith (Traded price quantity) count = record { outcome = 1; price = price; quantity = quantity; count = count }
+answerWith NoTrade count = record { outcome = 2; price = 0; quantity = 0; count = 0 }
+answerWith NonOpening count = record { outcome = 3; price = 0; quantity = 0; count = 0 }
+answerWith (Delayed price quantity) count = record { outcome = 4; price = price; quantity = quantity; count = 0 }
+
+-- the trades of a quantity and the book after them, told by the ranks of the session's book
+abbrev pub tradesBy : Session → Auction → ℕ → List Trade
+tradesBy s a quantity = tradesIn quantity (s .book .number) (s .book .left) (ranksOn (s .book) a Buy) (ranksOn (s .book) a Sell)
+
+abbrev pub settledBy : Session → Auction → ℕ → Book
+settledBy s a quantity = settled a (restsIn quantity (s .book .left) (ranksOn (s .book) a Buy) (ranksOn (s .book) a Sell)) (s .book)
+
+-- the session with that book, in the next phase
+abbrev pub closedBy : Session → Auction → ℕ → ℕ → Session
+closedBy s a quantity reference = record {
+  phase = phaseAfter a;
+  delayed = s .delayed;
+  parameters = s .parameters;
+  reference = reference;
+  given = s .given;
+  book = settledBy s a quantity;
+}
+
+module _ (s : Session) (sound : Sound s) (a : Auction) where
+  by-ranks : (quantity : ℕ) → tradesBy s a quantity ≡ tradesOf quantity (part s a)
+  by-ranks quantity = trades-in (s .parameters .step) (s .given) (s .book) (sound .book-sound) (sound .numbers-left) a quantity
+
+  enough : (price quantity : ℕ) → outcomeOf s a ≡ Traded price quantity → (on : Side) → quantity ≤ interest on price (part s a)
+  unfolding outcomeOf
+  enough price quantity e on =
+      let (found, i) = outcome-traded a (s .delayed) (s .parameters .threshold) (s .reference) (part s a) price quantity e in
+      smaller on i
+    where
+      smaller : (on : Side) → quantity ≡ executable (part s a) price → quantity ≤ interest on price (part s a)
+      smaller Buy i = omega arith
+      smaller Sell i = omega arith
+
+  -- each outcome, as the code leaves it
+  pub traded-leaves : (price quantity count : ℕ) → outcomeOf s a ≡ Traded price quantity → count ≡ length (tradesBy s a quantity) → (list left : List ℕ)
+      → left ≡ quadruples price (tradesBy s a quantity) ++ drop (4 * count) list
+      → auctionLeaves (record { answer = 0; result = record { outcome = 1; price = price; quantity = quantity; count = count }; session = closedBy s a quantity price }) left ≡ auctionDone s a list
+  traded-leaves price quantity count e c list left l =
+      rw (e, l, c, by-ranks quantity, rests-in (s .parameters .step) (s .given) (s .book) (sound .book-sound) (sound .numbers-left) a price quantity (enough price quantity e))
+
+  pub no-trade-leaves : (price count : ℕ) → outcomeOf s a ≡ NoTrade → count ≡ length (tradesBy s a 0) → (list left : List ℕ)
+      → left ≡ quadruples price (tradesBy s a 0) ++ drop (4 * count) list
+      → auctionLeaves (record { answer = 0; result = record { outcome = 2; price = 0; quantity = 0; count = 0 }; session = closedBy s a 0 (s .reference) }) left ≡ auctionDone s a list
+  no-trade-leaves price count e c list left l =
+      rw (e, l, c, by-ranks 0, rests-in (s .parameters .step) (s .given) (s .book) (sound .book-sound) (sound .numbers-left) a price 0 (λ on. omega arith), trades-none (part s a))
+
+  pub non-opening-leaves : outcomeOf s a ≡ NonOpening → (list : List ℕ)
+      → auctionLeaves (record { answer = 0; result = record { outcome = 3; price = 0; quantity = 0; count = 0 }; session = s }) list ≡ auctionDone s a list
+  non-opening-leaves e list = rw e
+
+  pub delayed-leaves : (price quantity : ℕ) → outcomeOf s a ≡ Delayed price quantity → (list : List ℕ)
+      → auctionLeaves (record {
+        answer = 0;
+        result = record { outcome = 4; price = price; quantity = quantity; count = 0 };
+        session = record { phase = s .phase; delayed = true; parameters = s .parameters; reference = s .reference; given = s .given; book = s .book };
+      }) list ≡ auctionDone s a list
+  delayed-leaves price quantity e list = rw e
+
+-- an auction that is not refused is one, in a started session, with a list that is long enough
+module _ (s : Session) (which : ℕ) where
+  module _ (list : List ℕ) where
+    turned-down : (n : ℕ) (made : AuctionMade) → n ≢ 0 → auctionAnswer n made s list ≡ auctionRefused n s list
+    turned-down zero made h = absurd (h refl)
+    turned-down (suc n) made h = refl
+
+    pub auction-turned-down : {n : ℕ} → n ≡ firstHit (auctionChecks s which (length list)) → n ≢ 0 → auctionRefused n s list ≡ auctioned s which list
+    unfolding auctioned
+    auction-turned-down {n} h k = sym (turned-down n (auctionOf which) k) ∙ ap (λ (m : ℕ). auctionAnswer m (auctionOf which) s list) h
+
+    module _ (h : firstHit (auctionChecks s which (length list)) ≡ 0) where
+      pub auction-called : {r : AuctionMade} → r ≡ auctionOf which → r ≡ AuctionMade.Refused → ⊥
+      auction-called i j =
+          let (a, k) = auction-made which (test-holds (isAuction which) (none-hit (auctionChecks s which (length list)) tt .0 h .0)) in
+          let z : _≡_ {A = ℕ} 0 1 = cc in omega arith
+
+      pub auction-started : T (hasStarted (s .phase))
+      auction-started = test-holds (hasStarted (s .phase)) (none-hit (auctionChecks s which (length list)) tt .0 h .1 .0)
+
+      pub auction-room : tradeListLength ≤ length list
+      auction-room = ltb-false (length list) tradeListLength (none-hit (auctionChecks s which (length list)) tt .0 h .1 .1 .1 .0)
+
+      pub auction-carried-out : (a : Auction) → auctionOf which ≡ AuctionMade.Good a → auctionDone s a list ≡ auctioned s which list
+      unfolding auctioned
+      auction-carried-out a i = rw (h, i)
+
+  unforeseen : (n : ℕ) (made : AuctionMade) → n ≢ 0 → theoreticalAnswer n made s ≡ record { answer = n; result = noAnswer }
+  unforeseen zero made h = absurd (h refl)
+  unforeseen (suc n) made h = refl
+
+  pub theoretical-turned-down : {n : ℕ} → n ≡ firstHit (theoreticalChecks s which) → n ≢ 0 → record { answer = n; result = noAnswer } ≡ theoretical s which
+  unfolding theoretical
+  theoretical-turned-down {n} h k = sym (unforeseen n (auctionOf which) k) ∙ ap (λ (m : ℕ). theoreticalAnswer m (auctionOf which) s) h
+
+  module _ (h : firstHit (theoreticalChecks s which) ≡ 0) where
+    pub theoretical-called : {r : AuctionMade} → r ≡ auctionOf which → r ≡ AuctionMade.Refused → ⊥
+    theoretical-called i j =
+        let (a, k) = auction-made which (test-holds (isAuction which) (none-hit (theoreticalChecks s which) tt .0 h .0)) in
+        let z : _≡_ {A = ℕ} 0 1 = cc in omega arith
+
+    pub theoretical-started : T (hasStarted (s .phase))
+    theoretical-started = test-holds (hasStarted (s .phase)) (none-hit (theoreticalChecks s which) tt .0 h .1 .0)
+
+    pub theoretical-foreseen : (a : Auction) → auctionOf which ≡ AuctionMade.Good a → (result : AuctionAnswer) → result ≡ answerOf (outcomeOf s a) (part s a)
+        → record { answer = 0; result = result } ≡ theoretical s which
+    unfolding theoretical
+    theoretical-foreseen a i result e = rw (h, i, e)

@@ -1,0 +1,215 @@
+// An auction in a session: its outcome at this moment, and what it leaves (01 "Outcomes").
+use crate::AuctionAnswer;
+use crate::Auctioned;
+use crate::Phase;
+use crate::Session;
+use auction::Outcome;
+use terms::Auction;
+use terms::Side;
+ghost use mathlib.Core.Path.{_≡_};
+ghost use mathlib.Core.List.{_++_};
+ghost use Prim.Native.Nat.{_*_, _≤_};
+ghost use lib.Dec.{T};
+ghost use lib.ListN.{length, take, drop};
+ghost use Rattle.terms.specs.Bounds.{tradeListLength};
+ghost use Rattle.terms.specs.declared.orders.{Side.the-variants.Buy, Side.the-variants.Sell};
+
+ghost use Rattle.auction.specs.Trading.{ranksOn};
+ghost use Rattle.auction.specs.Written.{quadruples};
+ghost use Rattle.session.specs.Phases.{hasStarted, phaseAfter};
+ghost use Rattle.session.specs.Auctions.{outcomeOf, delayGiven, noAnswer, auctionLeaves, auctionDone};
+ghost use Rattle.session.specs.AuctionCalls.{answerWith, tradesBy, closedBy};
+ghost use Rattle.session.specs.Sound.{Sound};
+
+// The outcome at this moment, and how many take part on each side.
+pub struct Outlook {
+    pub outcome: Outcome,
+    pub bids: usize,
+    pub asks: usize,
+}
+
+// A session after its auction, and how many trades there were.
+pub struct Close {
+    pub session: Session,
+    pub count: u32,
+}
+
+// An opening auction leads to day, a closing auction to closed.
+fn phase_after(auction: Auction) -> Phase
+    ensures { λ r. ⌜ r ≡ phaseAfter auction ⌝ }
+{
+    match auction {
+        Auction::Opening => Phase::Day,
+        Auction::Closing => Phase::Closed,
+    }
+}
+
+pub fn no_answer() -> AuctionAnswer
+    ensures { λ r. ⌜ r ≡ noAnswer ⌝ }
+{
+    AuctionAnswer {
+        outcome: 0,
+        price: 0,
+        quantity: 0,
+        count: 0,
+    }
+}
+
+// The four numbers of an outcome with its trades counted.
+pub fn answer_with(outcome: Outcome, count: u32) -> AuctionAnswer
+    ensures { λ r. ⌜ r ≡ answerWith outcome count ⌝ }
+{
+    match outcome {
+        Outcome::Traded { price, quantity } => AuctionAnswer {
+            outcome: 1,
+            price,
+            quantity,
+            count,
+        },
+        Outcome::NoTrade => AuctionAnswer {
+            outcome: 2,
+            price: 0,
+            quantity: 0,
+            count: 0,
+        },
+        Outcome::NonOpening => AuctionAnswer {
+            outcome: 3,
+            price: 0,
+            quantity: 0,
+            count: 0,
+        },
+        Outcome::Delayed { price, quantity } => AuctionAnswer {
+            outcome: 4,
+            price,
+            quantity,
+            count: 0,
+        },
+    }
+}
+
+impl Session {
+    // The outcome at this moment; the ranks of both sides go to the two lists.
+    pub fn outlook(self, auction: Auction, buys: &mut [u64], sells: &mut [u64]) -> Outlook
+        requires { ⌜ Sound self × T (hasStarted (self .phase)) × (512 ≤ length (now buys)) × (512 ≤ length (now sells)) ⌝ }
+        ensures { λ r. ⌜ (r .outcome ≡ outcomeOf self auction) × (r .bids ≤ 512) × (take (r .bids) (now (buys .exit)) ≡ ranksOn (self .book) auction Buy) × (r .asks ≤ 512) × (take (r .asks) (now (sells .exit)) ≡ ranksOn (self .book) auction Sell) ⌝ }
+    {
+        let bids = queue::ranked(
+            buys,
+            Side::Buy,
+            auction,
+            &self.book.side,
+            &self.book.validity,
+            &self.book.limit,
+            &self.book.number,
+        );
+        let asks = queue::ranked(
+            sells,
+            Side::Sell,
+            auction,
+            &self.book.side,
+            &self.book.validity,
+            &self.book.limit,
+            &self.book.number,
+        );
+        let parameters = self.parameters;
+        let outcome = auction::outcome_now(
+            auction,
+            self.delayed,
+            parameters.threshold,
+            self.reference,
+            &self.book.limit,
+            &self.book.left,
+            &buys[..bids],
+            &sells[..asks],
+        );
+        Outlook {
+            outcome,
+            bids,
+            asks,
+        }
+    }
+
+    // Outcomes 1 and 2: the trades of a quantity leave the book, the ended validities too, and the phase goes on.
+    fn closed<'a>(
+        self,
+        auction: Auction,
+        reference: u32,
+        price: u32,
+        quantity: u64,
+        buys: &'a [u64],
+        sells: &'a [u64],
+        list: &mut [u32],
+    ) -> Close
+        requires { ⌜ (now buys ≡ ranksOn (self .book) auction Buy) × (now sells ≡ ranksOn (self .book) auction Sell) ⌝ }
+        ensures { λ r. ⌜ (r .count ≡ length (tradesBy self auction quantity)) × (r .session ≡ closedBy self auction quantity reference) × (4 * r .count ≤ length (now (list .entry)) → now (list .exit) ≡ quadruples price (tradesBy self auction quantity) ++ drop (4 * r .count) (now (list .entry))) ⌝ }
+    {
+        let old = self.book;
+        let closed = auction::traded(old, auction, price, quantity, buys, sells, list);
+        let book = closed.book;
+        let parameters = self.parameters;
+        let session = Session {
+            phase: phase_after(auction),
+            delayed: self.delayed,
+            parameters,
+            reference,
+            given: self.given,
+            book,
+        };
+        Close {
+            session,
+            count: closed.count,
+        }
+    }
+
+    // Outcome 4: only the mark that the delay is spent changes.
+    fn delay_given(mut self) -> Session
+        ensures { λ r. ⌜ r ≡ delayGiven self ⌝ }
+    {
+        self.delayed = true;
+        self
+    }
+
+    // What an auction with this outcome leaves; buys and sells are the ranks of both sides.
+    pub fn carried_out<'a>(
+        self,
+        auction: Auction,
+        outcome: Outcome,
+        buys: &'a [u64],
+        sells: &'a [u64],
+        list: &mut [u32],
+    ) -> Auctioned
+        requires { ⌜ Sound self × (outcome ≡ outcomeOf self auction) × (now buys ≡ ranksOn (self .book) auction Buy) × (now sells ≡ ranksOn (self .book) auction Sell) × (tradeListLength ≤ length (now list)) ⌝ }
+        ensures { λ r. ⌜ auctionLeaves r (now (list .exit)) ≡ auctionDone self auction (now (list .entry)) ⌝ }
+    {
+        match outcome {
+            Outcome::Traded { price, quantity } => {
+                let close = self.closed(auction, price, price, quantity, buys, sells, list);
+                let session = close.session;
+                Auctioned {
+                    answer: 0,
+                    result: answer_with(outcome, close.count),
+                    session,
+                }
+            }
+            Outcome::NoTrade => {
+                let close = self.closed(auction, self.reference, 0, 0, buys, sells, list);
+                let session = close.session;
+                Auctioned {
+                    answer: 0,
+                    result: answer_with(outcome, 0),
+                    session,
+                }
+            }
+            Outcome::NonOpening => Auctioned {
+                answer: 0,
+                result: answer_with(outcome, 0),
+                session: self,
+            },
+            Outcome::Delayed { price, quantity } => Auctioned {
+                answer: 0,
+                result: answer_with(outcome, 0),
+                session: self.delay_given(),
+            },
+        }
+    }
+}
