@@ -13,22 +13,25 @@ use Rattle.terms.specs.Orders.{isAuction, auctionOf}
 use Rattle.terms.specs.Made.{auction-made}
 use Rattle.terms.specs.declared.orders.{Side.Side, Side.the-variants.Buy, Side.the-variants.Sell, Auction.Auction, AuctionMade.AuctionMade, Order.Order}
 use Rattle.book.specs.declared.Book.{Book}
-use Rattle.book.specs.Resting.{changed}
+use Rattle.book.specs.Resting.{resting, changed}
+use Rattle.book.specs.Rests.{resting-length}
+use Rattle.queue.specs.Part.{takingPart-length}
 use Rattle.price.specs.Interest.{interest, executable}
 use Rattle.auction.specs.declared.{Trade.Trade, Outcome.Outcome, Outcome.the-variants.Traded, Outcome.the-variants.NoTrade, Outcome.the-variants.NonOpening, Outcome.the-variants.Delayed}
-use Rattle.auction.specs.Fills.{tradesOf, trades-none}
-use Rattle.auction.specs.Outcome.{outcome, outcome-traded}
+use Rattle.auction.specs.Fills.{tradesOf, trades-none, trades-count}
+use Rattle.auction.specs.Outcome.{outcome, trades, outcome-traded}
 use Rattle.auction.specs.After.{restOf}
 use Rattle.auction.specs.Settled.{settled}
-use Rattle.auction.specs.Trading.{ranksOn, tradesIn, restsIn}
+use Rattle.auction.specs.Trading.{ranksOn, outcomeIn, tradesIn, restsIn}
+use Rattle.auction.specs.OutcomeIn.{outcome-in}
 use Rattle.auction.specs.TradesIn.{trades-in, rests-in}
 use Rattle.auction.specs.Written.{quadruples, written}
-use Rattle.session.specs.declared.{Session.Session, AuctionAnswer.AuctionAnswer, Auctioned.Auctioned, Foreseen.Foreseen}
+use Rattle.session.specs.declared.{Phase.Phase, Session.Session, AuctionAnswer.AuctionAnswer, Auctioned.Auctioned, Foreseen.Foreseen}
 use Rattle.session.specs.Phases.{hasStarted, phaseAfter}
 use Rattle.session.specs.Checks.{firstHit}
 use Rattle.session.specs.Exactly.{none-hit}
 use Rattle.session.specs.Sound.{Sound, test-holds}
-use Rattle.session.specs.Auctions.{part, outcomeOf, answerOf, auctionChecks, auctionLeaves, auctionRefused, auctionDone, auctionAnswer, auctioned, theoreticalChecks, theoreticalAnswer, theoretical, noAnswer}
+use Rattle.session.specs.Auctions.{part, outcomeOf, answerOf, delayGiven, auctionChecks, auctionLeaves, auctionRefused, auctionDone, auctionAnswer, auctioned, theoreticalChecks, theoreticalAnswer, theoretical, noAnswer}
 
 -- the four numbers of an outcome with its trades counted
 abbrev pub answerWith : Outcome → ℕ → AuctionAnswer
@@ -55,7 +58,23 @@ closedBy s a quantity reference = record {
   book = settledBy s a quantity;
 }
 
+-- what closing an auction of a quantity at a price leaves: the count, the session after, and the list, where it has room
+abbrev pub Closing : Session → Auction → ℕ → ℕ → ℕ → ℕ → Session → List ℕ → List ℕ → Type 0
+Closing s a price quantity reference count after list left =
+    (count ≡ length (tradesBy s a quantity)) × (after ≡ closedBy s a quantity reference) × (4 * count ≤ length list → left ≡ quadruples price (tradesBy s a quantity) ++ drop (4 * count) list)
+
+-- .. from the ranks and the book that the code has
+pub closing : (s : Session) (a : Auction) (price quantity reference : ℕ) (buys sells : List ℕ) → buys ≡ ranksOn (s .book) a Buy → sells ≡ ranksOn (s .book) a Sell
+    → (count : ℕ) (phase : Phase) (book : Book) (list left : List ℕ) → phase ≡ phaseAfter a
+    → (count ≡ length (tradesIn quantity (s .book .number) (s .book .left) buys sells)) × (book ≡ settled a (restsIn quantity (s .book .left) buys sells) (s .book))
+    × (4 * count ≤ length list → left ≡ quadruples price (tradesIn quantity (s .book .number) (s .book .left) buys sells) ++ drop (4 * count) list)
+    → Closing s a price quantity reference count (record { phase = phase; delayed = s .delayed; parameters = s .parameters; reference = reference; given = s .given; book = book }) list left
+closing s a price quantity reference buys sells e f count phase book list left p (c, k, l) = rw (← e, ← f) (c, rw (p, k), l)
+
 module _ (s : Session) (sound : Sound s) (a : Auction) where
+  abbrev Closes : ℕ → ℕ → ℕ → ℕ → Session → List ℕ → List ℕ → Type 0
+  Closes price quantity reference count after list left = Closing s a price quantity reference count after list left
+
   by-ranks : (quantity : ℕ) → tradesBy s a quantity ≡ tradesOf quantity (part s a)
   by-ranks quantity = trades-in (s .parameters .step) (s .given) (s .book) (sound .book-sound) (sound .numbers-left) a quantity
 
@@ -93,6 +112,59 @@ module _ (s : Session) (sound : Sound s) (a : Auction) where
         session = record { phase = s .phase; delayed = true; parameters = s .parameters; reference = s .reference; given = s .given; book = s .book };
       }) list ≡ auctionDone s a list
   delayed-leaves price quantity e list = rw e
+
+  -- What the code leaves of each outcome, step by step.
+  -- no more trades than the list has room for
+  fits-list : (quantity count : ℕ) (list : List ℕ) → count ≡ length (tradesBy s a quantity) → tradeListLength ≤ length list → 4 * count ≤ length list
+  fits-list quantity count list c room = omega (
+    arith,
+    ap length (by-ranks quantity),
+    trades-count quantity (part s a),
+    takingPart-length a (resting (s .book)),
+    resting-length (s .book) places,
+  )
+
+  -- a close, and the outcome that it belongs to
+  module _ (o : Outcome) (now : o ≡ outcomeOf s a) (result : AuctionAnswer) (list left : List ℕ) (room : tradeListLength ≤ length list) where
+    pub leaves-traded : (price quantity count : ℕ) (after : Session) → o ≡ Traded price quantity → result ≡ answerWith (Traded price quantity) count
+        → Closes price quantity price count after list left
+        → auctionLeaves (record { answer = 0; result = result; session = after }) left ≡ auctionDone s a list
+    leaves-traded price quantity count after i r (c, e, l) =
+        rw (r, e) (traded-leaves price quantity count (sym now ∙ i) c list left (l (fits-list quantity count list c room)))
+
+    pub leaves-no-trade : (count : ℕ) (after : Session) → o ≡ NoTrade → result ≡ answerWith o 0
+        → Closes 0 0 (s .reference) count after list left
+        → auctionLeaves (record { answer = 0; result = result; session = after }) left ≡ auctionDone s a list
+    leaves-no-trade count after i r (c, e, l) =
+        rw (r, i, e) (no-trade-leaves 0 count (sym now ∙ i) c list left (l (fits-list 0 count list c room)))
+
+    pub leaves-non-opening : o ≡ NonOpening → result ≡ answerWith o 0 → auctionLeaves (record { answer = 0; result = result; session = s }) list ≡ auctionDone s a list
+    leaves-non-opening i r = rw (r, i) (non-opening-leaves (sym now ∙ i) list)
+
+    pub leaves-delayed : (price quantity : ℕ) (after : Session) → o ≡ Delayed price quantity → result ≡ answerWith (Delayed price quantity) 0 → after ≡ delayGiven s
+        → auctionLeaves (record { answer = 0; result = result; session = after }) list ≡ auctionDone s a list
+    leaves-delayed price quantity after i r e = rw (r, e) (delayed-leaves price quantity (sym now ∙ i) list)
+
+  -- the answer foretold: trades counted where it trades
+  pub foretold : (o : Outcome) → o ≡ outcomeOf s a → (result : AuctionAnswer) (count : ℕ) → count ≡ length (trades o (part s a)) → result ≡ answerWith o count → result ≡ answerOf (outcomeOf s a) (part s a)
+  foretold o now result count c r = r ∙ rw (← now, c) (same o)
+    where
+      same : (o : Outcome) → answerWith o (length (trades o (part s a))) ≡ answerOf o (part s a)
+      same (Traded price quantity) = refl
+      same NoTrade = refl
+      same NonOpening = refl
+      same (Delayed price quantity) = refl
+
+  pub traded-count : (o : Outcome) (price quantity count : ℕ) → o ≡ Traded price quantity → count ≡ length (tradesBy s a quantity) → count ≡ length (trades o (part s a))
+  traded-count o price quantity count i c = c ∙ rw i (ap length (by-ranks quantity))
+
+  -- the outcome at this moment
+  module _ (running : T (hasStarted (s .phase))) where
+    pub outcome-by-ranks : (buys sells : List ℕ) → buys ≡ ranksOn (s .book) a Buy → sells ≡ ranksOn (s .book) a Sell → (o : Outcome)
+        → o ≡ outcomeIn a (s .delayed) (s .parameters .threshold) (s .reference) (s .book .limit) (s .book .left) buys sells → o ≡ outcomeOf s a
+    unfolding outcomeOf
+    outcome-by-ranks buys sells e f o i =
+        i ∙ rw (e, f) (outcome-in (s .parameters .step) (s .given) (s .book) (sound .book-sound) (sound .numbers-left) a (s .delayed) (s .parameters .threshold) (s .reference) (sound .reference-holds running))
 
 -- an auction that is not refused is one, in a started session, with a list that is long enough
 module _ (s : Session) (which : ℕ) where

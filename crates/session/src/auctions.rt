@@ -13,11 +13,10 @@ ghost use lib.Dec.{T};
 ghost use lib.ListN.{length, take, drop};
 ghost use Rattle.terms.specs.Bounds.{tradeListLength};
 ghost use Rattle.terms.specs.declared.orders.{Side.the-variants.Buy, Side.the-variants.Sell};
-
 ghost use Rattle.auction.specs.Trading.{ranksOn};
 ghost use Rattle.auction.specs.Written.{quadruples};
 ghost use Rattle.session.specs.Phases.{hasStarted, phaseAfter};
-ghost use Rattle.session.specs.Auctions.{outcomeOf, delayGiven, noAnswer, auctionLeaves, auctionDone};
+ghost use Rattle.session.specs.Auctions.{part, outcomeOf, answerOf, delayGiven, noAnswer, auctionLeaves, auctionDone};
 ghost use Rattle.session.specs.AuctionCalls.{answerWith, tradesBy, closedBy};
 ghost use Rattle.session.specs.Sound.{Sound};
 
@@ -210,6 +209,34 @@ impl Session {
                 result: answer_with(outcome, 0),
                 session: self.delay_given(),
             },
+        }
+    }
+
+    // The four numbers that the auction would answer at this moment.
+    pub fn foreseen(self, auction: Auction) -> AuctionAnswer
+        requires { ⌜ Sound self × T (hasStarted (self .phase)) ⌝ }
+        ensures { λ r. ⌜ r ≡ answerOf (outcomeOf self auction) (part self auction) ⌝ }
+    {
+        let mut buys = [0u64; 512];
+        let mut sells = [0u64; 512];
+        let view = self.outlook(auction, &mut buys, &mut sells);
+        let outcome = view.outcome;
+        let bids = view.bids;
+        let asks = view.asks;
+        match outcome {
+            Outcome::Traded { price, quantity } => {
+                let count = auction::count_trades(
+                    quantity,
+                    &self.book.number,
+                    &self.book.left,
+                    &buys[..bids],
+                    &sells[..asks],
+                );
+                answer_with(outcome, count)
+            }
+            Outcome::NoTrade => answer_with(outcome, 0),
+            Outcome::NonOpening => answer_with(outcome, 0),
+            Outcome::Delayed { price, quantity } => answer_with(outcome, 0),
         }
     }
 }

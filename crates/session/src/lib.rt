@@ -1,5 +1,5 @@
 // A session for one security: phases and the seven public calls, in the words of 01. A session goes in by value and
-// comes back by value. The auction, the theoretical answer and the ranked queue are not there yet.
+// comes back by value.
 mod auctions;
 mod checks;
 
@@ -16,6 +16,7 @@ use terms::SideMade;
 ghost use mathlib.Core.Path.{_≡_};
 ghost use Rattle.terms.specs.Parameters.{parametersFrom};
 ghost use Rattle.session.specs.Entry.{freshSession, started as Entry·started, entered as Entry·entered, deleted as Entry·deleted};
+ghost use Rattle.session.specs.Auctions.{auctionLeaves, auctioned as Auctions·auctioned, theoretical as Auctions·theoretical};
 ghost use Rattle.session.specs.Queues.{queueLeaves, queued as Queues·queued, filledFront, frontAnswered};
 ghost use Rattle.session.specs.Sound.{Sound};
 
@@ -211,6 +212,63 @@ impl Session {
             book,
         };
         Deleted { answer: 0, session }
+    }
+
+    // Auction: refusals 1, 2, 4, 12. The trades go to the list, four numbers each, from its front.
+    pub fn auction(self, which: u8, list: &mut [u32]) -> Auctioned
+        requires { ⌜ Sound self ⌝ }
+        ensures { λ r. ⌜ auctionLeaves r (now (list .exit)) ≡ Auctions·auctioned self which (now (list .entry)) ⌝ }
+    {
+        let phase = self.phase;
+        let answer = checks::auction_refusal(phase, which, list.len());
+        if answer != 0 {
+            return Auctioned {
+                answer,
+                result: auctions::no_answer(),
+                session: self,
+            };
+        }
+        let AuctionMade::Good(auction) = Auction::new(which) else {
+            // Never: an auction that is not refused is one.
+            return Auctioned {
+                answer: 1,
+                result: auctions::no_answer(),
+                session: self,
+            };
+        };
+        let mut buys = [0u64; 512];
+        let mut sells = [0u64; 512];
+        let view = self.outlook(auction, &mut buys, &mut sells);
+        let outcome = view.outcome;
+        let bids = view.bids;
+        let asks = view.asks;
+        self.carried_out(auction, outcome, &buys[..bids], &sells[..asks], list)
+    }
+
+    // Theoretical answer: refusals 1, 2, 4. What the auction would answer at this moment.
+    pub fn theoretical(self, which: u8) -> Foreseen
+        requires { ⌜ Sound self ⌝ }
+        ensures { λ r. ⌜ r ≡ Auctions·theoretical self which ⌝ }
+    {
+        let phase = self.phase;
+        let answer = checks::theoretical_refusal(phase, which);
+        if answer != 0 {
+            return Foreseen {
+                answer,
+                result: auctions::no_answer(),
+            };
+        }
+        let AuctionMade::Good(auction) = Auction::new(which) else {
+            // Never, as above.
+            return Foreseen {
+                answer: 1,
+                result: auctions::no_answer(),
+            };
+        };
+        Foreseen {
+            answer: 0,
+            result: self.foreseen(auction),
+        }
     }
 
     // Ranked queue: refusals 1, 2, 12. The order numbers taking part, best first, from the front of the list.

@@ -1,0 +1,84 @@
+use Rattle.session.specs.AuctionCalls.{leaves-traded, leaves-no-trade, leaves-non-opening, leaves-delayed}
+use borrow.Author.Needs.{needs}
+use Rattle.session.proofs.Session.carried_out.Statement.{statement}
+use Rattle.session.proofs.Session.carried_out.Tie as tie
+
+enum-known-outcome : tie.Need-enum-known-outcome
+enum-known-outcome c = search needs
+
+closed-requires : tie.Need-closed-requires
+closed-requires c κs = search needs
+
+answer-with-requires : tie.Need-answer-with-requires
+answer-with-requires c κs = search needs
+
+enum-told : tie.Need-enum-told
+enum-told c = search needs
+
+closed-requires-2 : tie.Need-closed-requires-2
+closed-requires-2 c κs = search needs
+
+answer-with-requires-2 : tie.Need-answer-with-requires-2
+answer-with-requires-2 c κs = search needs
+
+enum-told-2 : tie.Need-enum-told-2
+enum-told-2 c = search needs
+
+answer-with-requires-3 : tie.Need-answer-with-requires-3
+answer-with-requires-3 c κs = search needs
+
+enum-known-outcome-2 : tie.Need-enum-known-outcome-2
+enum-known-outcome-2 c = search needs
+
+answer-with-requires-4 : tie.Need-answer-with-requires-4
+answer-with-requires-4 c κs = search needs
+
+delay-given-requires : tie.Need-delay-given-requires
+delay-given-requires c κs = search needs
+
+same-length : tie.Need-same-length
+same-length c = search needs
+
+returns : tie.Need-returns
+returns c =
+    leaves-traded (c .before .before .before .before .before .before .before .before .before .before .before .before .args .self) (c .before .before .before .before .before .before .before .before .before .before .before .before .pre .0) (c .before .before .before .before .before .before .before .before .before .before .before .before .args .auction) (c .before .before .before .before .before .before .before .before .before .before .before .before .args .outcome) (c .before .before .before .before .before .before .before .before .before .before .before .before .pre .1) (c .answer-with .result) (c .before .before .before .before .before .before .before .before .before .before .before .before .args .list .now) (c .before .before .before .before .closed .last .1 .1 .1 .1 .1 .1 .1 .0) (c .before .before .before .before .before .before .before .before .before .before .before .before .pre .4)
+    (c .before .before .before .before .before .before .before .outcome .given .0 .0) (c .before .before .before .before .before .before .before .outcome .given .0 .1 .0) (c .before .before .before .before .closed .result .count) (c .before .before .before .before .closed .result .session) (c .before .before .before .before .before .before .before .outcome .given .1) (c .answer-with .ensures) (c .before .before .before .before .closed .ensures)
+
+same-length-2 : tie.Need-same-length-2
+same-length-2 c = search needs
+
+returns-2 : tie.Need-returns-2
+returns-2 c =
+    leaves-no-trade (c .before .before .before .before .before .before .before .before .before .before .before .args .self) (c .before .before .before .before .before .before .before .before .before .before .before .pre .0) (c .before .before .before .before .before .before .before .before .before .before .before .args .auction) (c .before .before .before .before .before .before .before .before .before .before .before .args .outcome) (c .before .before .before .before .before .before .before .before .before .before .before .pre .1) (c .answer-with2 .result) (c .before .before .before .before .before .before .before .before .before .before .before .args .list .now) (c .before .before .before .before .closed2 .last .1 .1 .1 .1 .1 .1 .1 .0) (c .before .before .before .before .before .before .before .before .before .before .before .pre .4)
+    (c .before .before .before .before .closed2 .result .count) (c .before .before .before .before .closed2 .result .session) (c .before .before .before .before .before .before .enum-told .given .1) (c .answer-with2 .ensures) (c .before .before .before .before .closed2 .ensures)
+
+returns-3 : tie.Need-returns-3
+returns-3 c =
+    leaves-non-opening (c .before .before .before .before .before .before .args .self) (c .before .before .before .before .before .before .pre .0) (c .before .before .before .before .before .before .args .auction) (c .before .before .before .before .before .before .args .outcome) (c .before .before .before .before .before .before .pre .1) (c .answer-with3 .result) (c .before .before .before .before .before .before .args .list .now) (c .before .before .before .before .before .before .args .list .now) (c .before .before .before .before .before .before .pre .4) (c .before .enum-told2 .given .1) (c .answer-with3 .ensures)
+
+returns-4 : tie.Need-returns-4
+returns-4 c =
+    leaves-delayed (c .before .before .before .before .before .before .before .before .args .self) (c .before .before .before .before .before .before .before .before .pre .0) (c .before .before .before .before .before .before .before .before .args .auction) (c .before .before .before .before .before .before .before .before .args .outcome) (c .before .before .before .before .before .before .before .before .pre .1) (c .before .answer-with4 .result) (c .before .before .before .before .before .before .before .before .args .list .now) (c .before .before .before .before .before .before .before .before .args .list .now) (c .before .before .before .before .before .before .before .before .pre .4)
+    (c .before .before .before .outcome2 .given .0 .0) (c .before .before .before .outcome2 .given .0 .1 .0) (c .delay-given .result) (c .before .before .before .outcome2 .given .1) (c .before .answer-with4 .ensures) (c .delay-given .ensures)
+
+pub carried-out-spec : {M : Type 1} → statement M
+carried-out-spec =
+    tie.close
+    (tie.spec
+    enum-known-outcome
+    closed-requires
+    answer-with-requires
+    enum-told
+    closed-requires-2
+    answer-with-requires-2
+    enum-told-2
+    answer-with-requires-3
+    enum-known-outcome-2
+    answer-with-requires-4
+    delay-given-requires
+    same-length
+    returns
+    same-length-2
+    returns-2
+    returns-3
+    returns-4)

@@ -1,0 +1,26 @@
+use Rattle.terms.specs.declared.orders.{Side.the-variants.Buy, Side.the-variants.Sell}
+use Rattle.auction.specs.Trading.{ranks-few}
+use Rattle.session.specs.AuctionCalls.{closing}
+use borrow.Author.Needs.{needs}
+use Rattle.session.proofs.Session.closed.Statement.{statement}
+use Rattle.session.proofs.Session.closed.Tie as tie
+
+traded-requires : tie.Need-traded-requires
+traded-requires c κs =
+    let a = c .before .before .before .before .before .args in
+    (rw (c .before .before .before .before .before .pre .0) (ranks-few (a .self .book) (a .auction) Buy), rw (c .before .before .before .before .before .pre .1) (ranks-few (a .self .book) (a .auction) Sell))
+
+phase-after-requires : tie.Need-phase-after-requires
+phase-after-requires c κs = search needs
+
+same-length : tie.Need-same-length
+same-length c = search needs
+
+returns : tie.Need-returns
+returns c =
+    let a = c .before .before .before .before .before .before .before .before .before .before .before .args in
+    closing (a .self) (a .auction) (a .price) (a .quantity) (a .reference) (a .buys .now) (a .sells .now) (c .before .before .before .before .before .before .before .before .before .before .before .pre .0) (c .before .before .before .before .before .before .before .before .before .before .before .pre .1) (c .before .before .before .before .before .traded .result .count) (c .phase-after .result) (c .before .before .before .before .before .traded .result .book)
+    (a .list .now) (c .before .before .before .before .before .traded .last .1 .1 .1 .1 .1 .1 .0) (c .phase-after .ensures) (c .before .before .before .before .before .traded .ensures)
+
+pub closed-spec : {M : Type 1} → statement M
+closed-spec = tie.close (tie.spec traded-requires phase-after-requires same-length returns)

@@ -1,0 +1,68 @@
+use native.Mathlib.Omega.{arith}
+use mathlib.Core.Path.{sym}
+use lib.ListN.{take}
+use lib.Seq.{length-take-le}
+use Rattle.terms.specs.declared.orders.{Side.the-variants.Buy, Side.the-variants.Sell}
+use Rattle.auction.specs.Trading.{ranks-few, ranks-ascend}
+use Rattle.session.specs.AuctionCalls.{outcome-by-ranks}
+use borrow.Author.Needs.{needs}
+use Rattle.session.proofs.Session.outlook.Statement.{statement}
+use Rattle.session.proofs.Session.outlook.Tie as tie
+
+ranked-requires : tie.Need-ranked-requires
+ranked-requires c κs = search needs
+
+ranked-requires-2 : tie.Need-ranked-requires-2
+ranked-requires-2 c κs = search needs
+
+slice-reshare-prefix-outcome-now : tie.Need-slice-reshare-prefix-outcome-now
+slice-reshare-prefix-outcome-now c = search needs
+
+slice-aggregate-outcome-now : tie.Need-slice-aggregate-outcome-now
+slice-aggregate-outcome-now c = sym (length-take-le (c .before .before .before .before .before .before .before .before .before .before .before .before .before .before .before .before .ranked .result) (c .before .before .before .before .before .before .before .before .before .before .before .before .before .before .before .before .ranked .last .0) (omega (arith, c .before .before .before .before .before .before .before .before .before .before .before .before .before .before .before .before .ranked .kept .0, c .before .before .before .before .before .before .before .before .before .before .before .before .before .before .before .before .ranked .ensures .0, c .before .before .before .before .before .before .before .before .before .before .before .before .before .before .before .before .before .before .before .before .before .before .before .before .before .pre .2)))
+
+slice-reshare-prefix-outcome-now-2 : tie.Need-slice-reshare-prefix-outcome-now-2
+slice-reshare-prefix-outcome-now-2 c = search needs
+
+slice-aggregate-outcome-now-2 : tie.Need-slice-aggregate-outcome-now-2
+slice-aggregate-outcome-now-2 c = sym (length-take-le (c .before .before .before .before .before .before .before .before .ranked2 .result) (c .before .before .before .before .before .before .before .before .ranked2 .last .0) (omega (arith, c .before .before .before .before .before .before .before .before .ranked2 .kept .0, c .before .before .before .before .before .before .before .before .ranked2 .ensures .0, c .before .before .before .before .before .before .before .before .before .before .before .before .before .before .before .before .before .before .before .before .before .before .before .before .before .before .pre .3)))
+
+outcome-now-requires : tie.Need-outcome-now-requires
+outcome-now-requires c κs =
+    let a = c .before .before .before .before .before .before .before .before .before .before .before .before .before .before .before .before .before .before .before .before .before .before .before .before .before .before .args in (
+      rw (c .before .before .before .before .before .before .before .before .before .before .before .before .before .before .before .before .before .ranked .ensures .1) (ranks-ascend (a .t1 .book) (a .auction) Buy),
+      rw (c .before .before .before .before .before .before .before .before .before .before .before .before .before .before .before .before .before .ranked .ensures .1) (ranks-few (a .t1 .book) (a .auction) Buy),
+      rw (c .before .before .before .before .before .before .before .before .ranked2 .ensures .1) (ranks-ascend (a .t1 .book) (a .auction) Sell),
+      rw (c .before .before .before .before .before .before .before .before .ranked2 .ensures .1) (ranks-few (a .t1 .book) (a .auction) Sell),
+    )
+
+same-length : tie.Need-same-length
+same-length c = search needs
+
+same-length-2 : tie.Need-same-length-2
+same-length-2 c = search needs
+
+returns : tie.Need-returns
+returns c =
+    let a = c .before .before .before .before .before .before .before .before .before .before .before .before .before .before .before .before .before .before .before .before .before .before .before .before .before .before .before .args in (
+      outcome-by-ranks (a .t1) (c .before .before .before .before .before .before .before .before .before .before .before .before .before .before .before .before .before .before .before .before .before .before .before .before .before .before .before .pre .0) (a .auction) (c .before .before .before .before .before .before .before .before .before .before .before .before .before .before .before .before .before .before .before .before .before .before .before .before .before .before .before .pre .1) (take (c .before .before .before .before .before .before .before .before .before .before .before .before .before .before .before .before .before .before .ranked .result) (c .before .before .before .before .before .before .before .before .before .before .before .before .before .before .before .before .before .before .ranked .last .0)) (take (c .before .before .before .before .before .before .before .before .before .ranked2 .result) (c .before .before .before .before .before .before .before .before .before .ranked2 .last .0)) (c .before .before .before .before .before .before .before .before .before .before .before .before .before .before .before .before .before .before .ranked .ensures .1) (c .before .before .before .before .before .before .before .before .before .ranked2 .ensures .1) (c .outcome-now .result) (c .outcome-now .ensures),
+      c .before .before .before .before .before .before .before .before .before .before .before .before .before .before .before .before .before .before .ranked .ensures .0,
+      c .before .before .before .before .before .before .before .before .before .before .before .before .before .before .before .before .before .before .ranked .ensures .1,
+      c .before .before .before .before .before .before .before .before .before .ranked2 .ensures .0,
+      c .before .before .before .before .before .before .before .before .before .ranked2 .ensures .1,
+    )
+
+pub outlook-spec : {M : Type 1} → statement M
+outlook-spec =
+    tie.close
+    (tie.spec
+    ranked-requires
+    ranked-requires-2
+    slice-reshare-prefix-outcome-now
+    slice-aggregate-outcome-now
+    slice-reshare-prefix-outcome-now-2
+    slice-aggregate-outcome-now-2
+    outcome-now-requires
+    same-length
+    same-length-2
+    returns)
