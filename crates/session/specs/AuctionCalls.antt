@@ -155,8 +155,9 @@ module _ (s : Session) (sound : Sound s) (a : Auction) where
       same NonOpening = refl
       same (Delayed price quantity) = refl
 
-  pub traded-count : (o : Outcome) (price quantity count : ℕ) → o ≡ Traded price quantity → count ≡ length (tradesBy s a quantity) → count ≡ length (trades o (part s a))
-  traded-count o price quantity count i c = c ∙ rw i (ap length (by-ranks quantity))
+  pub trades-counted : (buys sells : List ℕ) → buys ≡ ranksOn (s .book) a Buy → sells ≡ ranksOn (s .book) a Sell → (quantity count : ℕ)
+      → count ≡ length (tradesIn quantity (s .book .number) (s .book .left) buys sells) → count ≡ length (tradesOf quantity (part s a))
+  trades-counted buys sells e f quantity count c = c ∙ rw (e, f) (ap length (by-ranks quantity))
 
   -- the outcome at this moment
   module _ (running : T (hasStarted (s .phase))) where
