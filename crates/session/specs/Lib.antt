@@ -5,10 +5,6 @@ pub mod Controls
 pub mod Entry
 pub mod Auctions
 pub mod Queues
-pub mod Computing
-pub mod Samples
-pub mod Table
-pub mod Sums
 pub mod Exactly
 pub mod Sound
 pub mod Calls

@@ -2,7 +2,7 @@
 use Prim.Native.Nat.{ℕ}
 use mathlib.Core.Path.{_≡_, refl}
 use mathlib.Core.List.{List, [], _∷_}
-use Rattle.session.specs.Computing.{computing}
+use Rattle.worked.specs.Computing.{computing}
 use Rattle.records.specs.Fields.{number}
 use Rattle.records.specs.Walk.{recordAt, walkFrom}
 use Rattle.lines.specs.Text.{digits}

@@ -1,8 +1,8 @@
 -- The P table: 01 "Sums to check by hand", P1 to P10, over the definitions of the calls.
 use mathlib.Core.Path.{_≡_, refl}
 use mathlib.Core.List.{[], _∷_}
-use Rattle.session.specs.Computing.{computing}
-use Rattle.session.specs.Samples.{startedAt, buy, sell, buyAny, sellAny, entryAnswer, enter, answered, after, openingOf, numbers}
+use Rattle.worked.specs.Computing.{computing}
+use Rattle.worked.specs.Samples.{startedAt, buy, sell, buyAny, sellAny, entryAnswer, enter, answered, after, openingOf, numbers}
 
 pub record PTable : Type 0 where
   -- limit 899,900 passes 6; 900,000 doesn't

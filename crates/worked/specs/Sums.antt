@@ -4,12 +4,12 @@ use mathlib.Core.List.{[], _∷_}
 use lib.ListN.{replicate}
 use Rattle.terms.specs.declared.orders.{Limit.the-variants.Unlimited, Limit.the-variants.At}
 use Rattle.book.specs.Resting.{resting}
 use Rattle.session.specs.declared.{Session.Session}
 use Rattle.session.specs.Entry.{freshSession, entered, deleted}
 use Rattle.session.specs.Auctions.{auctioned, theoretical}
 use Rattle.session.specs.Queues.{queued}
-use Rattle.session.specs.Computing.{computing}
-use Rattle.session.specs.Samples.{startedAt, entry, buy, sell, enter, answered, after, openingOf, numbers}
+use Rattle.worked.specs.Computing.{computing}
+use Rattle.worked.specs.Samples.{startedAt, entry, buy, sell, enter, answered, after, openingOf, numbers}
 
 -- empty book: outcome 2
 empty-book : openingOf 100_000 [] ≡ numbers 2 0 0 0

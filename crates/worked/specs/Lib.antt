@@ -1,0 +1,5 @@
+-- The sums of 01 that can be checked by hand, over the definitions of the calls.
+pub mod Computing
+pub mod Samples
+pub mod Table
+pub mod Sums

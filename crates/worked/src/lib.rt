@@ -1,0 +1,1 @@
+// Worked examples: 01 "Sums to check by hand", by computation. Definitions and proofs only; nothing runs.
