@@ -31,9 +31,9 @@ wrote-four list at a b c d h =
     let e3 : at + 3 ≡ suc (suc (suc at)) = omega arith in
     rw (e1, e2, e3) (sets-eq (a ∷ b ∷ c ∷ d ∷ []) list at h)
 
-quadruples-length : (price : ℕ) (ts : List Trade) → length (quadruples price ts) ≡ numbersPerTrade * length ts
-quadruples-length price [] = refl
-quadruples-length price (t ∷ ts) = omega (arith, quadruples-length price ts)
+pub quadruples-length : (price : ℕ) (ts : List Trade) → length (quadruples price ts) ≡ numbersPerTrade * length ts
+pub quadruples-length price [] = refl
+pub quadruples-length price (t ∷ ts) = omega (arith, quadruples-length price ts)
 
 quadruples-append : (price : ℕ) (ts us : List Trade) → quadruples price (ts ++ us) ≡ quadruples price ts ++ quadruples price us
 quadruples-append price [] us = refl

@@ -1,16 +1,32 @@
 -- Rank (B4): a strict total order on orders with distinct numbers; the ranked queue is in that order, holds exactly the orders of the
--- side that take part, and doesn't depend on places.
-use Prim.Native.Nat.{ℕ}
+-- side that take part, and doesn't depend on places. The call writes its numbers from the front of the lent list.
+use Prim.Native.Nat.{ℕ, _≤_}
 use mathlib.Core.Logic.{_⊎_, _↔_, _≢_}
-use mathlib.Core.Path.{_≡_}
-use mathlib.Core.List.{List}
+use mathlib.Core.Path.{_≡_, refl, _∙_}
+use mathlib.Core.List.{List, map}
+use native.Mathlib.Omega.{arith}
 use lib.Dec.{T}
-use Rattle.lists.specs.Sums.{_∈_, counted, sum}
+use lib.ListN.{length, take, drop, length-map, length-append, length-drop}
+use lib.Seq.{take-at, drop-at}
+use Rattle.lists.specs.Sums.{_∈_, counted, counted-le, sum, sum-mono, sum-ones}
 use Rattle.lists.specs.Ranking.{Ranked}
-use Rattle.terms.specs.declared.orders.{Side.Side, Auction.Auction, Order.Order}
-use Rattle.queue.specs.Part.{takesPart, takingPart, takingPart-distinct, takingPart-elim, takingPart-intro}
+use Rattle.terms.specs.Bounds.{places}
+use Rattle.terms.specs.Orders.{sideOf, sideNumber}
+use Rattle.terms.specs.declared.orders.{Side.Side, Side.the-variants.Buy, Side.the-variants.Sell, SideMade.SideMade, Auction.Auction, Order.Order}
+use Rattle.book.specs.Resting.{resting}
+use Rattle.queue.specs.Part.{takesPart, takingPart, takingPart-distinct, takingPart-elim, takingPart-intro, takingPart-length}
 use Rattle.queue.specs.Distinct.{Distinct}
 use Rattle.queue.specs.Rank.{ahead, onSide, ranked, ahead-irrefl, ahead-trans, ahead-total, ranked-in-order, ranked-elim, ranked-intro, ranked-sum, ranked-same}
+use Rattle.session.specs.declared.{Session.Session}
+use Rattle.session.specs.Checks.{firstHit}
+use Rattle.session.specs.Exactly.{none-hit}
+use Rattle.session.specs.Sound.{Sound}
+use Rattle.session.specs.Auctions.{part}
+use Rattle.session.specs.Queues.{QueueLeaves, rankedChecks, rankedNumbers, queueDone, queued}
+use Rattle.session.specs.QueueCalls.{queue-room}
+use Rattle.demands.specs.Answers.{ranked-exactly}
+use Rattle.demands.specs.Traded.{sound-ranged}
+use Rattle.demands.specs.Outcomes.{auctionNumber, auction-numbered}
 
 pub record RankOrder (s : Side) : Type 0 where
   pub irreflexive : (a : Order) → T (ahead s a a) → ⊥
@@ -45,3 +61,54 @@ ranked-by-no-place s a resting moved d e same =
     ranked-same s (takingPart a resting) (takingPart a moved) (takingPart-distinct a resting d) (takingPart-distinct a moved e)
     (λ o m. let (here, takes) = takingPart-elim a resting m in takingPart-intro a (same o .0 here) takes)
     (λ o m. let (here, takes) = takingPart-elim a moved m in takingPart-intro a (same o .1 here) takes)
+
+-- B4, the call: the first entries of the lent list are the numbers of the ranked queue, best first, as many as answered, at most 512; further
+-- entries stay.
+pub record QueueListed (s : Session) (side : Side) (a : Auction) (list : List ℕ) (l : QueueLeaves) : Type 0 where
+  pub queue : RankedQueue side a (resting (s .book))
+  pub best-first : take (l .returned .count) (l .list) ≡ map (λ o. o .number) (ranked side (part s a))
+  pub count : l .returned .count ≡ length (ranked side (part s a))
+  pub at-most : l .returned .count ≤ places
+  pub further : drop (l .returned .count) (l .list) ≡ drop (l .returned .count) list
+  pub as-long : length (l .list) ≡ length list
+
+side-numbered : (side : Side) → sideOf (sideNumber side) ≡ SideMade.Good side
+side-numbered Buy = refl
+side-numbered Sell = refl
+
+-- a queue is no longer than its book
+queue-few : (side : Side) (book : List Order) → length (ranked side book) ≤ length book
+queue-few side book = omega (
+  arith,
+  sum-ones (ranked side book),
+  ranked-sum side book (λ o. 1),
+  sum-mono (λ o. counted (onSide side o) 1) (λ o. 1) book (λ o m. counted-le (onSide side o) 1),
+  sum-ones book,
+)
+
+pub queue-listed : (s : Session) → Sound s → (side : Side) (a : Auction) (list : List ℕ) → queued s (sideNumber side) (auctionNumber a) list .returned .answer ≡ 0
+    → QueueListed s side a list (queued s (sideNumber side) (auctionNumber a) list)
+unfolding queued
+queue-listed s sound side a list accepted =
+    let checks = rankedChecks s (sideNumber side) (auctionNumber a) (length list) in
+    let h : firstHit checks ≡ 0 = none-hit checks tt .1 (ranked-exactly s (sideNumber side) (auctionNumber a) list .done .0 accepted) in
+    rw (h, side-numbered side, auction-numbered a) (done (queue-room s (sideNumber side) (auctionNumber a) list h))
+  where
+    numbers : List ℕ
+    numbers = rankedNumbers s side a
+
+    as-many : length numbers ≡ length (ranked side (part s a))
+    as-many = length-map (ranked side (part s a)) (λ (o : Order). o .number)
+
+    few : length numbers ≤ places
+    few = omega (arith, as-many, queue-few side (part s a), takingPart-length a (resting (s .book)), sound-ranged s sound .few)
+
+    done : places ≤ length list → QueueListed s side a list (queueDone numbers list)
+    done room = record {
+      queue = ranked-queue side a (resting (s .book)) (sound-ranged s sound .distinct);
+      best-first = take-at numbers (drop (length numbers) list) (length numbers) refl;
+      count = as-many;
+      at-most = few;
+      further = drop-at numbers (drop (length numbers) list) (length numbers) refl;
+      as-long = length-append numbers (drop (length numbers) list) ∙ rw (length-drop (length numbers) list) (omega (arith, few, room));
+    }

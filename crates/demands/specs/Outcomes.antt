@@ -1,0 +1,361 @@
+-- The outcome that an auction's call answers: what each number means and what it changes (B9), the price (B7), Non Opening (C5); and the
+-- theoretical answer foresees it (B10).
+use Prim.Native.Nat.{ℕ, zero, suc, _≤_}
+use mathlib.Core.Bool.{Bool, true, false, cond, not, true≢false}
+use mathlib.Core.Option.{Option, none, some, Option·none-ne-some, Option·some-injective}
+use mathlib.Core.Logic.{_⊎_, inl, inr, ⊎-elim, _↔_, _≢_}
+use mathlib.Core.Path.{_≡_, refl, sym, subst, _∙_}
+use mathlib.Core.List.{List, [], _∷_}
+use native.Mathlib.Omega.{arith}
+use borrow.Author.Tests.{le-ltb}
+use lib.Dec.{T, leb}
+use lib.ListN.{length}
+use Rattle.lists.specs.Tests.{tests, and-both}
+use Rattle.terms.specs.Bounds.{tradeListLength}
+use Rattle.terms.specs.Kinds.{isReference}
+use Rattle.terms.specs.Orders.{isAuction, auctionOf}
+use Rattle.terms.specs.declared.orders.{Auction.Auction, Auction.the-variants.Opening, Auction.the-variants.Closing, AuctionMade.AuctionMade, Entry.Entry}
+use Rattle.terms.specs.declared.parameters.{Parameters.Parameters}
+use Rattle.book.specs.Resting.{resting}
+use Rattle.queue.specs.Part.{takingPart-distinct}
+use Rattle.queue.specs.Reach.{resting-sound}
+use Rattle.price.specs.Interest.{executable}
+use Rattle.price.specs.Chain.{auctionPrice}
+use Rattle.auction.specs.declared.{Outcome.Outcome, Outcome.the-variants.Traded, Outcome.the-variants.NoTrade, Outcome.the-variants.NonOpening, Outcome.the-variants.Delayed}
+use Rattle.auction.specs.Outcome.{outcome, prevented, delays, priced, trades, outcomeNumber, priceAnswered, takesPlace}
+use Rattle.auction.specs.NonOpening.{Fillable, non-opening-exactly}
+use Rattle.auction.specs.Written.{written}
+use Rattle.session.specs.declared.{Session.Session, Phase.the-variants.PreOpening, AuctionAnswer.AuctionAnswer}
+use Rattle.session.specs.Phases.{hasStarted, phaseAfter}
+use Rattle.session.specs.Checks.{firstHit}
+use Rattle.session.specs.Exactly.{none-hit}
+use Rattle.session.specs.Entry.{startChecks, startAnswer, started, orderChecks, orderAnswer, entered, deleteChecks, deleteAnswer, deleted}
+use Rattle.session.specs.Sound.{Sound, test-holds}
+use Rattle.session.specs.Auctions.{AuctionLeaves, part, outcomeOf, answerOf, delayGiven, sessionAfter, auctionLeaves, auctionChecks, auctionDone, auctionAnswer, auctioned, theoreticalChecks, theoreticalAnswer, theoretical}
+use Rattle.session.specs.AuctionCalls.{auction-started, auction-room, auction-carried-out}
+use Rattle.demands.specs.Answers.{auction-exactly}
+use Rattle.demands.specs.Sequences.{Call, after, run}
+use Rattle.demands.specs.Prices.{price-is-legal}
+use Rattle.demands.specs.Traded.{sound-ranged, every-closing-takes-place}
+
+-- the number that asks for an auction: 1 opening, 2 closing
+abbrev pub auctionNumber : Auction → ℕ
+auctionNumber Opening = 1
+auctionNumber Closing = 2
+
+pub auction-numbered : (a : Auction) → auctionOf (auctionNumber a) ≡ AuctionMade.Good a
+auction-numbered Opening = refl
+auction-numbered Closing = refl
+
+-- every auction that is not refused is asked for by such a number
+pub accepted-number : (s : Session) (which : ℕ) (list : List ℕ) → auctioned s which list .returned .answer ≡ 0 → (a : Auction) × (which ≡ auctionNumber a)
+accepted-number s which list accepted = named which (test-holds (isAuction which) (auction-exactly s which list .done .0 accepted .0))
+  where
+    named : (x : ℕ) → T (isAuction x) → (a : Auction) × (x ≡ auctionNumber a)
+    named zero h = absurd h
+    named (suc zero) h = (Opening, refl)
+    named (suc (suc zero)) h = (Closing, refl)
+    named (suc (suc (suc n))) h = let k = and-both (leb 1 (suc (suc (suc n)))) (leb (suc (suc (suc n))) 2) h .1 in absurd (omega tests)
+
+-- An auction that is not refused is carried out, in a started session, on a list that is long enough.
+pub record CarriedOut (s : Session) (a : Auction) (list : List ℕ) : Type 0 where
+  pub leaves : auctioned s (auctionNumber a) list ≡ auctionDone s a list
+  pub running : T (hasStarted (s .phase))
+  pub room : tradeListLength ≤ length list
+
+pub carried-out : (s : Session) (a : Auction) (list : List ℕ) → auctioned s (auctionNumber a) list .returned .answer ≡ 0 → CarriedOut s a list
+carried-out s a list accepted =
+    let checks = auctionChecks s (auctionNumber a) (length list) in
+    let h : firstHit checks ≡ 0 = none-hit checks tt .1 (auction-exactly s (auctionNumber a) list .done .0 accepted) in
+    record {
+      leaves = sym (auction-carried-out s (auctionNumber a) list h a (auction-numbered a));
+      running = auction-started s (auctionNumber a) list h;
+      room = auction-room s (auctionNumber a) list h;
+    }
+
+-- what decides the outcome: unlimited orders prevent it, the price, and whether that price delays it
+abbrev pub isPrevented : Session → Auction → Bool
+isPrevented s a = prevented a (s .reference) (part s a)
+
+abbrev pub priceOf : Session → Auction → Option ℕ
+priceOf s a = auctionPrice (s .reference) (part s a)
+
+abbrev pub isDelayed : Session → Auction → ℕ → Bool
+isDelayed s a price = delays a (s .delayed) (s .parameters .threshold) (s .reference) price
+
+-- B9, the order: Non Opening, Delayed Opening, then 1 with trades or 2 without; each number exactly when, and the price and quantity with it.
+pub record OutcomesInOrder (s : Session) (a : Auction) (r : AuctionAnswer) : Type 0 where
+  pub non-opening : (r .outcome ≡ 3) ↔ T (isPrevented s a)
+  pub delayed : (r .outcome ≡ 4) ↔ (T (not (isPrevented s a)) × ((p : ℕ) × (priceOf s a ≡ some p) × T (isDelayed s a p)))
+  pub traded : (r .outcome ≡ 1) ↔ (T (not (isPrevented s a)) × ((p : ℕ) × (priceOf s a ≡ some p) × T (not (isDelayed s a p))))
+  pub no-trade : (r .outcome ≡ 2) ↔ (T (not (isPrevented s a)) × (priceOf s a ≡ none))
+  -- outcomes 1 and 4 give price and quantity, 2 and 3 zeros, and 2, 3 and 4 no trades
+  pub priced : (r .outcome ≡ 1) ⊎ (r .outcome ≡ 4) → (priceOf s a ≡ some (r .price)) × (r .quantity ≡ executable (part s a) (r .price))
+  pub zeros : (r .outcome ≡ 2) ⊎ (r .outcome ≡ 3) → (r .price ≡ 0) × (r .quantity ≡ 0)
+  pub no-trades : r .outcome ≢ 1 → r .count ≡ 0
+
+-- in the order of the definition
+decided : (s : Session) (a : Auction) → OutcomesInOrder s a (answerOf (outcomeOf s a) (part s a))
+unfolding outcomeOf outcome
+decided s a = prevents (isPrevented s a) refl
+  where
+    delaying : (p : ℕ) → isPrevented s a ≡ false → priceOf s a ≡ some p → (b : Bool) → isDelayed s a p ≡ b
+        → OutcomesInOrder s a (answerOf (cond b (Delayed p (executable (part s a) p)) (Traded p (executable (part s a) p))) (part s a))
+    delaying p e f true g = record {
+      non-opening = ((λ i. absurd (omega arith)), (λ h. absurd (rw e at h)));
+      delayed = ((λ i. (rw e tt, (p, f, rw g tt))), (λ x. refl));
+      traded = ((λ i. absurd (omega arith)), (λ (h, (q, i, j)). absurd (rw (Option·some-injective q p (sym i ∙ f), g) at j)));
+      no-trade = ((λ i. absurd (omega arith)), (λ (h, i). absurd (Option·none-ne-some p (sym i ∙ f))));
+      priced = λ i. (f, refl);
+      zeros = ⊎-elim (λ i. absurd (omega arith)) (λ i. absurd (omega arith));
+      no-trades = λ i. refl;
+    }
+    delaying p e f false g = record {
+      non-opening = ((λ i. absurd (omega arith)), (λ h. absurd (rw e at h)));
+      delayed = ((λ i. absurd (omega arith)), (λ (h, (q, i, j)). absurd (rw (Option·some-injective q p (sym i ∙ f), g) at j)));
+      traded = ((λ i. (rw e tt, (p, f, rw g tt))), (λ x. refl));
+      no-trade = ((λ i. absurd (omega arith)), (λ (h, i). absurd (Option·none-ne-some p (sym i ∙ f))));
+      priced = λ i. (f, refl);
+      zeros = ⊎-elim (λ i. absurd (omega arith)) (λ i. absurd (omega arith));
+      no-trades = λ i. absurd (i refl);
+    }
+
+    pricing : isPrevented s a ≡ false → (found : Option ℕ) → priceOf s a ≡ found
+        → OutcomesInOrder s a (answerOf (priced a (s .delayed) (s .parameters .threshold) (s .reference) (part s a) found) (part s a))
+    pricing e none f = record {
+      non-opening = ((λ i. absurd (omega arith)), (λ h. absurd (rw e at h)));
+      delayed = ((λ i. absurd (omega arith)), (λ (h, (q, i, j)). absurd (Option·none-ne-some q (sym f ∙ i))));
+      traded = ((λ i. absurd (omega arith)), (λ (h, (q, i, j)). absurd (Option·none-ne-some q (sym f ∙ i))));
+      no-trade = ((λ i. (rw e tt, f)), (λ x. refl));
+      priced = ⊎-elim (λ i. absurd (omega arith)) (λ i. absurd (omega arith));
+      zeros = λ i. (refl, refl);
+      no-trades = λ i. refl;
+    }
+    pricing e (some p) f = delaying p e f (isDelayed s a p) refl
+
+    prevents : (b : Bool) → isPrevented s a ≡ b
+        → OutcomesInOrder s a (answerOf (cond b NonOpening (priced a (s .delayed) (s .parameters .threshold) (s .reference) (part s a) (priceOf s a))) (part s a))
+    prevents true e = record {
+      non-opening = ((λ i. rw e tt), (λ h. refl));
+      delayed = ((λ i. absurd (omega arith)), (λ (h, x). absurd (rw e at h)));
+      traded = ((λ i. absurd (omega arith)), (λ (h, x). absurd (rw e at h)));
+      no-trade = ((λ i. absurd (omega arith)), (λ (h, x). absurd (rw e at h)));
+      priced = ⊎-elim (λ i. absurd (omega arith)) (λ i. absurd (omega arith));
+      zeros = λ i. (refl, refl);
+      no-trades = λ i. refl;
+    }
+    prevents false e = pricing e (priceOf s a) refl
+
+pub outcomes-in-order : (s : Session) (a : Auction) (list : List ℕ) → auctioned s (auctionNumber a) list .returned .answer ≡ 0
+    → OutcomesInOrder s a (auctioned s (auctionNumber a) list .returned .result)
+outcomes-in-order s a list accepted = rw (carried-out s a list accepted .leaves) (decided s a)
+
+-- B9, the changes: the mark, the reference price and the phase change only as told, and the list is written with trades only.
+pub record OutcomeChanges (s : Session) (a : Auction) (list : List ℕ) (l : AuctionLeaves) : Type 0 where
+  -- the price becomes the reference price, and the phase goes on
+  pub traded : l .returned .result .outcome ≡ 1 → (l .returned .session .reference ≡ l .returned .result .price) × (l .returned .session .phase ≡ phaseAfter a)
+  -- the phase goes on
+  pub no-trade : l .returned .result .outcome ≡ 2 → (l .returned .session .reference ≡ s .reference) × (l .returned .session .phase ≡ phaseAfter a) × (l .list ≡ list)
+  -- nothing changes
+  pub non-opening : l .returned .result .outcome ≡ 3 → (l .returned .session ≡ s) × (l .list ≡ list)
+  -- only the mark that the delay is spent
+  pub delayed : l .returned .result .outcome ≡ 4 → (l .returned .session ≡ delayGiven s) × (l .list ≡ list)
+  pub mark-kept : l .returned .result .outcome ≢ 4 → l .returned .session .delayed ≡ s .delayed
+  pub parameters-kept : l .returned .session .parameters ≡ s .parameters
+  pub given-kept : l .returned .session .given ≡ s .given
+
+changes : (s : Session) (a : Auction) (list : List ℕ) → OutcomeChanges s a list (auctionDone s a list)
+changes s a list = go (outcomeOf s a)
+  where
+    go : (o : Outcome) → OutcomeChanges s a list (auctionLeaves (record { answer = 0; result = answerOf o (part s a); session = sessionAfter s a (part s a) o }) (written (priceAnswered o) (trades o (part s a)) list))
+    go (Traded price quantity) = record {
+      traded = λ i. (refl, refl);
+      no-trade = λ i. absurd (omega arith);
+      non-opening = λ i. absurd (omega arith);
+      delayed = λ i. absurd (omega arith);
+      mark-kept = λ i. refl;
+      parameters-kept = refl;
+      given-kept = refl;
+    }
+    go NoTrade = record {
+      traded = λ i. absurd (omega arith);
+      no-trade = λ i. (refl, refl, refl);
+      non-opening = λ i. absurd (omega arith);
+      delayed = λ i. absurd (omega arith);
+      mark-kept = λ i. refl;
+      parameters-kept = refl;
+      given-kept = refl;
+    }
+    go NonOpening = record {
+      traded = λ i. absurd (omega arith);
+      no-trade = λ i. absurd (omega arith);
+      non-opening = λ i. (refl, refl);
+      delayed = λ i. absurd (omega arith);
+      mark-kept = λ i. refl;
+      parameters-kept = refl;
+      given-kept = refl;
+    }
+    go (Delayed price quantity) = record {
+      traded = λ i. absurd (omega arith);
+      no-trade = λ i. absurd (omega arith);
+      non-opening = λ i. absurd (omega arith);
+      delayed = λ i. (refl, refl);
+      mark-kept = λ i. absurd (i refl);
+      parameters-kept = refl;
+      given-kept = refl;
+    }
+
+pub outcome-changes : (s : Session) (a : Auction) (list : List ℕ) → auctioned s (auctionNumber a) list .returned .answer ≡ 0
+    → OutcomeChanges s a list (auctioned s (auctionNumber a) list)
+outcome-changes s a list accepted = subst (OutcomeChanges s a list) (sym (carried-out s a list accepted .leaves)) (changes s a list)
+
+-- B9, of the other calls: a start leads to pre-opening with its reference price in force; an order and a deletion keep phase, mark,
+-- parameters and reference price. The rest return no session.
+abbrev pub Standing : Session → Session → Type 0
+Standing s t = (t .phase ≡ s .phase) × (t .delayed ≡ s .delayed) × (t .parameters ≡ s .parameters) × (t .reference ≡ s .reference)
+
+pub record OthersKeep (s : Session) : Type 0 where
+  pub start : (p : Parameters) → started s p .answer ≡ 0
+      → (started s p .session .phase ≡ PreOpening) × (started s p .session .delayed ≡ s .delayed) × (started s p .session .parameters ≡ p) × (started s p .session .reference ≡ p .reference)
+  pub order : (e : Entry) → Standing s (entered s e .session)
+  pub delete : (number member : ℕ) → Standing s (deleted s number member .session)
+
+pub others-keep : (s : Session) → OthersKeep s
+unfolding started entered deleted
+others-keep s = record {
+  start = λ p. starts (firstHit (startChecks s p)) p;
+  order = λ e. orders (firstHit (orderChecks s e)) e;
+  delete = λ number member. deletes (firstHit (deleteChecks s number member)) number member;
+}
+  where
+    starts : (n : ℕ) (p : Parameters) → startAnswer n s p .answer ≡ 0
+        → (startAnswer n s p .session .phase ≡ PreOpening) × (startAnswer n s p .session .delayed ≡ s .delayed) × (startAnswer n s p .session .parameters ≡ p)
+        × (startAnswer n s p .session .reference ≡ p .reference)
+    starts zero p h = (refl, refl, refl, refl)
+    starts (suc n) p h = absurd (omega arith)
+
+    orders : (n : ℕ) (e : Entry) → Standing s (orderAnswer n s e .session)
+    orders zero e = (refl, refl, refl, refl)
+    orders (suc n) e = (refl, refl, refl, refl)
+
+    deletes : (n number member : ℕ) → Standing s (deleteAnswer n s number member .session)
+    deletes zero number member = (refl, refl, refl, refl)
+    deletes (suc n) number member = (refl, refl, refl, refl)
+
+-- the mark, once set, stays, and holds off another delay
+mark-stays : (s : Session) (c : Call) → s .delayed ≡ true → after s c .delayed ≡ true
+unfolding started auctioned
+mark-stays s (Call.start p) e = starts (firstHit (startChecks s p))
+  where
+    starts : (n : ℕ) → startAnswer n s p .session .delayed ≡ true
+    starts zero = e
+    starts (suc n) = e
+mark-stays s (Call.order o) e = others-keep s .order o .1 ∙ e
+mark-stays s (Call.delete number member) e = others-keep s .delete number member .1 ∙ e
+mark-stays s (Call.auction which list) e = auctions (firstHit (auctionChecks s which (length list))) (auctionOf which)
+  where
+    outcomes : (a : Auction) (o : Outcome) → sessionAfter s a (part s a) o .delayed ≡ true
+    outcomes a (Traded price quantity) = e
+    outcomes a NoTrade = e
+    outcomes a NonOpening = e
+    outcomes a (Delayed price quantity) = refl
+
+    auctions : (n : ℕ) (made : AuctionMade) → auctionAnswer n made s list .returned .session .delayed ≡ true
+    auctions (suc n) made = e
+    auctions zero AuctionMade.Refused = e
+    auctions zero (AuctionMade.Good a) = outcomes a (outcomeOf s a)
+mark-stays s (Call.theoretical which) e = e
+mark-stays s (Call.ranked side which list) e = e
+mark-stays s (Call.filledFront buys sells side total) e = e
+
+marked-run : (s : Session) (cs : List Call) → s .delayed ≡ true → run s cs .delayed ≡ true
+marked-run s [] e = e
+marked-run s (c ∷ cs) e = marked-run (after s c) cs (mark-stays s c e)
+
+mark-set : (s : Session) (which : ℕ) (list : List ℕ) → auctioned s which list .returned .result .outcome ≡ 4 → auctioned s which list .returned .session .delayed ≡ true
+unfolding auctioned
+mark-set s which list = go (firstHit (auctionChecks s which (length list))) (auctionOf which)
+  where
+    sets : (a : Auction) (o : Outcome) → outcomeNumber o ≡ 4 → sessionAfter s a (part s a) o .delayed ≡ true
+    sets a (Traded price quantity) h = absurd (omega arith)
+    sets a NoTrade h = absurd (omega arith)
+    sets a NonOpening h = absurd (omega arith)
+    sets a (Delayed price quantity) h = refl
+
+    go : (n : ℕ) (made : AuctionMade) → auctionAnswer n made s list .returned .result .outcome ≡ 4 → auctionAnswer n made s list .returned .session .delayed ≡ true
+    go (suc n) made h = absurd (omega arith)
+    go zero AuctionMade.Refused h = absurd (omega arith)
+    go zero (AuctionMade.Good a) h = sets a (outcomeOf s a) h
+
+mark-spent : (s : Session) (which : ℕ) (list : List ℕ) → s .delayed ≡ true → auctioned s which list .returned .result .outcome ≢ 4
+unfolding auctioned
+mark-spent s which list e = go (firstHit (auctionChecks s which (length list))) (auctionOf which)
+  where
+    spent : (a : Auction) (d : Bool) (threshold reference price : ℕ) → d ≡ true → T (delays a d threshold reference price) → ⊥
+    spent Opening true threshold reference price i h = h
+    spent Opening false threshold reference price i h = true≢false (sym i)
+    spent Closing d threshold reference price i h = h
+
+    go : (n : ℕ) (made : AuctionMade) → auctionAnswer n made s list .returned .result .outcome ≡ 4 → ⊥
+    go (suc n) made h = omega arith
+    go zero AuctionMade.Refused h = omega arith
+    go zero (AuctionMade.Good a) h = let (free, (p, found, delaying)) = decided s a .delayed .0 h in spent a (s .delayed) (s .parameters .threshold) (s .reference) p e delaying
+
+-- B9, once: after a Delayed Opening no call in any sequence answers outcome 4 again.
+pub delayed-once : (s : Session) (which : ℕ) (list : List ℕ) → auctioned s which list .returned .result .outcome ≡ 4
+    → (cs : List Call) (again : ℕ) (lent : List ℕ) → auctioned (run (auctioned s which list .returned .session) cs) again lent .returned .result .outcome ≢ 4
+delayed-once s which list h cs again lent =
+    mark-spent (run (auctioned s which list .returned .session) cs) again lent (marked-run (auctioned s which list .returned .session) cs (mark-set s which list h))
+
+-- B7. An auction price, of outcome 1 or 4, is a price and a multiple of the step.
+pub answered-price-is-legal : (s : Session) → Sound s → (a : Auction) (list : List ℕ) → auctioned s (auctionNumber a) list .returned .answer ≡ 0
+    → (auctioned s (auctionNumber a) list .returned .result .outcome ≡ 1) ⊎ (auctioned s (auctionNumber a) list .returned .result .outcome ≡ 4)
+    → T (isReference (s .parameters .step) (auctioned s (auctionNumber a) list .returned .result .price))
+answered-price-is-legal s sound a list accepted which =
+    price-is-legal a (s .parameters .step) (s .reference) (resting (s .book)) (sound .reference-holds (carried-out s a list accepted .running))
+    (λ o m. resting-sound (s .parameters .step) (s .given) (s .book) (sound .book-sound) o m .legal)
+    (auctioned s (auctionNumber a) list .returned .result .price) (outcomes-in-order s a list accepted .priced which .0)
+
+-- C5. Non Opening exactly when no trade list at any price fills every unlimited order taking part ..
+pub opening-prevented : (s : Session) → Sound s → (list : List ℕ) → auctioned s (auctionNumber Opening) list .returned .answer ≡ 0
+    → (auctioned s (auctionNumber Opening) list .returned .result .outcome ≡ 3) ↔ (Fillable (part s Opening) → ⊥)
+opening-prevented s sound list accepted =
+    let number = outcomes-in-order s Opening list accepted .non-opening in
+    let exactly = non-opening-exactly (s .reference) (part s Opening) (takingPart-distinct Opening (resting (s .book)) (sound-ranged s sound .distinct)) in
+    ((λ e. exactly .0 (number .0 e)), (λ no. number .1 (exactly .1 no)))
+
+-- .. and a closing has outcome 1 or 2 only
+pub closing-carried-out : (s : Session) (list : List ℕ) → auctioned s (auctionNumber Closing) list .returned .answer ≡ 0
+    → (auctioned s (auctionNumber Closing) list .returned .result .outcome ≡ 1) ⊎ (auctioned s (auctionNumber Closing) list .returned .result .outcome ≡ 2)
+unfolding outcomeOf
+closing-carried-out s list accepted =
+    rw (carried-out s Closing list accepted .leaves)
+    (one-of-two (outcomeOf s Closing) (every-closing-takes-place (s .delayed) (s .parameters .threshold) (s .reference) (resting (s .book))))
+  where
+    one-of-two : (o : Outcome) → T (takesPlace o) → (outcomeNumber o ≡ 1) ⊎ (outcomeNumber o ≡ 2)
+    one-of-two (Traded price quantity) h = inl refl
+    one-of-two NoTrade h = inr refl
+    one-of-two NonOpening h = absurd h
+    one-of-two (Delayed price quantity) h = absurd h
+
+-- on a list that is long enough the auction's checks are those of the theoretical answer
+same-checks : (s : Session) (which : ℕ) (list : List ℕ) → tradeListLength ≤ length list → firstHit (auctionChecks s which (length list)) ≡ firstHit (theoreticalChecks s which)
+unfolding firstHit
+same-checks s which list long = rw (le-ltb (length list) tradeListLength long)
+
+-- B10. The theoretical answer is what the auction would answer at that moment, on any list that is long enough. It returns no session and is
+-- lent no list, so that nothing changes.
+pub record Foresees (s : Session) (which : ℕ) (list : List ℕ) : Type 0 where
+  pub answer : theoretical s which .answer ≡ auctioned s which list .returned .answer
+  pub result : theoretical s which .result ≡ auctioned s which list .returned .result
+
+pub theoretical-foresees : (s : Session) (which : ℕ) (list : List ℕ) → tradeListLength ≤ length list → Foresees s which list
+unfolding theoretical auctioned
+theoretical-foresees s which list long =
+    let (answer, result) = go (firstHit (theoreticalChecks s which)) (auctionOf which) in
+    record { answer = rw (same-checks s which list long) answer; result = rw (same-checks s which list long) result }
+  where
+    go : (n : ℕ) (made : AuctionMade) → (theoreticalAnswer n made s .answer ≡ auctionAnswer n made s list .returned .answer) × (theoreticalAnswer n made s .result ≡ auctionAnswer n made s list .returned .result)
+    go (suc n) made = (refl, refl)
+    go zero AuctionMade.Refused = (refl, refl)
+    go zero (AuctionMade.Good a) = (refl, refl)
