@@ -12,7 +12,7 @@ use Rattle.price.specs.declared.search.{Found.Found}
 use Rattle.price.specs.Search.{sumBelow, offered, searchedIn}
 use Rattle.auction.specs.declared.{Outcome.Outcome}
 use Rattle.auction.specs.Decided.{outcomeFrom}
-use Rattle.auction.specs.Fronts.{sharePairs, numbersLeft, sharesLeft, numbersOf, pairedShares}
+use Rattle.auction.specs.Fronts.{sharePairs, numbersLeft, sharesLeft, pairedShares}
 use Rattle.auction.specs.Trading.{sumsOf, sharesIn, outcomeIn, tradesIn, restsIn}
 
 -- There are no more trades than shares.
@@ -27,7 +27,7 @@ few-pairs (suc k) (b ∷ bn) (x ∷ bq) (s ∷ sn) (y ∷ sq) =
     omega (arith, few-pairs k (numbersLeft (min x y) x b bn) (sharesLeft (min x y) x bq) (numbersLeft (min x y) y s sn) (sharesLeft (min x y) y sq))
 
 pub few-trades : (numbers buys bought sells sold : List ℕ) → length (pairedShares numbers buys bought sells sold) ≤ length bought + length sold
-few-trades numbers buys bought sells sold = few-pairs (length bought + length sold) (numbersOf numbers buys) bought (numbersOf numbers sells) sold
+few-trades numbers buys bought sells sold = few-pairs (length bought + length sold) (along numbers buys) bought (along numbers sells) sold
 
 -- Of shares found, the trades and the rests.
 pub trades-composed : (quantity : ℕ) (numbers lefts buys sells bought sold : List ℕ) → bought ≡ sharesIn quantity lefts buys → sold ≡ sharesIn quantity lefts sells

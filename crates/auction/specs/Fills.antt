@@ -9,11 +9,11 @@ use lib.ListN.{length}
 use Rattle.lists.specs.Tests.{and-intro, passes}
 use Rattle.lists.specs.Sums.{_∈_, counted, counted-and, counted-le, sum, sum-mono, sum-same, sum-ones, sum-add}
 use Rattle.terms.specs.declared.orders.{Side.Side, Side.the-variants.Buy, Side.the-variants.Sell, Order.Order}
-use Rattle.queue.specs.Sides.{sameSide}
+use Rattle.queue.specs.Sides.{allows, sameSide}
 use Rattle.queue.specs.Distinct.{Distinct, distinct-one, distinct-sum}
 use Rattle.queue.specs.Rank.{onSide, ahead, ranked, ranked-in-order, ranked-elim, ranked-intro, ranked-sum}
 use Rattle.queue.specs.Fill.{Fill, fill, filledBy, hasNumber, FrontPart, ranked-front, front-all, fill-zero, fill-length, fill-le, fill-all, fill-front, fill-passes, fill-in-order, filled-by-number, ranked-distinct}
-use Rattle.price.specs.Interest.{allows, accepts, interest, allows-ahead}
+use Rattle.price.specs.Interest.{accepts, interest, allows-ahead}
 use Rattle.auction.specs.declared.Trade.{Trade}
 use Rattle.auction.specs.Trades.{party, traded, volume, TradeList}
 use Rattle.auction.specs.Pairing.{amount, paired, paired-traded, paired-volume, paired-count, paired-parties, paired-positive}

@@ -6,7 +6,7 @@ use mathlib.Core.List.{List, [], _∷_, _++_, map}
 use native.Mathlib.Omega.{arith}
 use lib.Dec.{eqb, leb}
 use lib.ListN.{length, getD}
-use Rattle.queue.specs.Ranks.{placeOfRank}
+use Rattle.queue.specs.Ranks.{placeOfRank, along}
 use Rattle.queue.specs.Fill.{Fill}
 use Rattle.auction.specs.declared.{Trade.Trade, pairing.Front.Front}
 use Rattle.auction.specs.Pairing.{rest, served, pairs, paired}
@@ -34,17 +34,14 @@ sharePairs (suc k) (b ∷ bn) (x ∷ bq) (s ∷ sn) (y ∷ sq) =
     ∷ sharePairs k (numbersLeft (min x y) x b bn) (sharesLeft (min x y) x bq) (numbersLeft (min x y) y s sn) (sharesLeft (min x y) y sq)
 
 -- all of them: there are fewer trades than shares; numbers are looked up by ranks
-abbrev pub numbersOf : List ℕ → List ℕ → List ℕ
-numbersOf numbers ranks = map (λ r. getD numbers (placeOfRank r) 0) ranks
-
 abbrev pub pairedShares : List ℕ → List ℕ → List ℕ → List ℕ → List ℕ → List Trade
-pairedShares numbers buys bought sells sold = sharePairs (length bought + length sold) (numbersOf numbers buys) bought (numbersOf numbers sells) sold
+pairedShares numbers buys bought sells sold = sharePairs (length bought + length sold) (along numbers buys) bought (along numbers sells) sold
 
-pub numbers-length : (numbers ranks : List ℕ) → length (numbersOf numbers ranks) ≡ length ranks
+pub numbers-length : (numbers ranks : List ℕ) → length (along numbers ranks) ≡ length ranks
 numbers-length numbers [] = refl
 numbers-length numbers (r ∷ ranks) = ap suc (numbers-length numbers ranks)
 
-pub number-at : (numbers ranks : List ℕ) (i : ℕ) → i < length ranks → getD (numbersOf numbers ranks) i 0 ≡ getD numbers (placeOfRank (getD ranks i 0)) 0
+pub number-at : (numbers ranks : List ℕ) (i : ℕ) → i < length ranks → getD (along numbers ranks) i 0 ≡ getD numbers (placeOfRank (getD ranks i 0)) 0
 number-at numbers [] i h = absurd (omega arith)
 number-at numbers (r ∷ ranks) zero h = refl
 number-at numbers (r ∷ ranks) (suc i) h = number-at numbers ranks i (omega arith)

@@ -8,10 +8,10 @@ use lib.Dec.{T}
 use Rattle.lists.specs.Tests.{and-both}
 use Rattle.lists.specs.Sums.{_∈_, counted, sum-less, sum-map, sum-same}
 use Rattle.terms.specs.declared.orders.{Side.Side, Side.the-variants.Buy, Side.the-variants.Sell, Order.Order}
-use Rattle.queue.specs.Sides.{sameSide-eq}
+use Rattle.queue.specs.Sides.{allows, sameSide-eq}
 use Rattle.queue.specs.Distinct.{Distinct}
 use Rattle.queue.specs.Rank.{onSide}
-use Rattle.price.specs.Interest.{allows, accepts, interest, executable}
+use Rattle.price.specs.Interest.{accepts, interest, executable}
 use Rattle.auction.specs.Trades.{traded}
 use Rattle.auction.specs.Fills.{tradesOf, allows-front, traded-front, trades-possible}
 use Rattle.auction.specs.After.{remaining}

@@ -10,7 +10,7 @@ use Rattle.lists.specs.Tests.{tests, and-both, and-intro, or-cases, decided}
 use Rattle.lists.specs.Sums.{_∈_, counted, counted-pass, sum, sum-each, sum-mono, sum-swap}
 use Rattle.lists.specs.Choice.{highest-at}
 use Rattle.terms.specs.declared.orders.{Side.Side, Side.the-variants.Buy, Side.the-variants.Sell, Limit.Limit, Limit.the-variants.Unlimited, Limit.the-variants.At, Order.Order}
-use Rattle.queue.specs.Sides.{sameSide-eq, sameSide-refl}
+use Rattle.queue.specs.Sides.{isUnlimited, sameSide-eq, sameSide-refl}
 use Rattle.queue.specs.Distinct.{Distinct, distinct-sum}
 use Rattle.queue.specs.Rank.{onSide, betterLimit, ahead-limit, ranked, ranked-in-order}
 use Rattle.queue.specs.Fill.{FrontPart, ranked-front}
@@ -19,7 +19,7 @@ use Rattle.price.specs.Candidates.{limits, mostExecutable}
 use Rattle.auction.specs.declared.{Trade.Trade}
 use Rattle.auction.specs.Trades.{party, traded, volume, TradeList, volume-le-most}
 use Rattle.auction.specs.Fills.{tradesOf, traded-front, trades-possible}
-use Rattle.auction.specs.Outcome.{isUnlimited, unlimited, nonOpening}
+use Rattle.auction.specs.Outcome.{unlimited, nonOpening}
 
 -- each unlimited order trades all that it has open
 abbrev pub AllFilled : List Order → List Trade → Type 0

@@ -10,16 +10,13 @@ use lib.Dec.{T, leb, ltb}
 use lib.ListN.{length}
 use Rattle.lists.specs.Sums.{apart}
 use Rattle.terms.specs.Bounds.{hundredthsOfPercent}
-use Rattle.terms.specs.declared.orders.{Side.Side, Side.the-variants.Buy, Side.the-variants.Sell, Auction.Auction, Auction.the-variants.Opening, Auction.the-variants.Closing, Limit.Limit, Limit.the-variants.Unlimited, Limit.the-variants.At, Order.Order}
+use Rattle.terms.specs.declared.orders.{Side.Side, Side.the-variants.Buy, Side.the-variants.Sell, Auction.Auction, Auction.the-variants.Opening, Auction.the-variants.Closing, Order.Order}
+use Rattle.queue.specs.Sides.{isUnlimited}
 use Rattle.price.specs.Interest.{executable}
 use Rattle.price.specs.Candidates.{mostExecutable}
 use Rattle.price.specs.Chain.{auctionPrice}
 use Rattle.auction.specs.declared.{Trade.Trade, Outcome.Outcome, Outcome.the-variants.Traded, Outcome.the-variants.NoTrade, Outcome.the-variants.NonOpening, Outcome.the-variants.Delayed}
 use Rattle.auction.specs.Fills.{leftOf, tradesOf}
-
-abbrev pub isUnlimited : Limit → Bool
-isUnlimited Unlimited = true
-isUnlimited (At p) = false
 
 -- the unlimited quantity taking part on a side
 abbrev pub unlimited : Side → List Order → ℕ

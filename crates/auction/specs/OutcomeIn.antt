@@ -19,6 +19,7 @@ use Rattle.book.specs.declared.Book.{Book}
 use Rattle.book.specs.Columns.{orderAt}
 use Rattle.book.specs.Resting.{resting}
 use Rattle.book.specs.Sound.{SoundBook}
+use Rattle.queue.specs.Sides.{isUnlimited}
 use Rattle.queue.specs.Part.{takingPart, takingPart-elim, takingPart-distinct}
 use Rattle.queue.specs.Distinct.{Distinct}
 use Rattle.queue.specs.Rank.{onSide, ranked, ranked-elim, ranked-intro}
@@ -35,7 +36,7 @@ use Rattle.price.specs.Ladder.{sum-below-front, offered-is-interest}
 use Rattle.price.specs.Searched.{searched-most, searched-price}
 use Rattle.auction.specs.Fills.{queue-left}
 use Rattle.auction.specs.NonOpening.{unlimited-front}
-use Rattle.auction.specs.Outcome.{isUnlimited, unlimited, outcome}
+use Rattle.auction.specs.Outcome.{unlimited, outcome}
 use Rattle.auction.specs.Decided.{decided}
 use Rattle.auction.specs.Trading.{ranksOn, sumsOf, unlimitedIn, outcomeIn}
 

@@ -1,40 +1,38 @@
 -- The trades of a sound book and what rests at each place, told by the ranks of its queues.
 use Prim.Native.Nat.{ℕ, zero, suc, _+_, _-_, _≤_, _<_}
-use mathlib.Core.Bool.{Bool, true, false}
+use mathlib.Core.Bool.{true}
 use mathlib.Core.Logic.{_≢_}
-use mathlib.Core.Path.{_≡_, refl, sym, ap, subst, _∙_}
+use mathlib.Core.Path.{_≡_, refl, sym, ap, _∙_}
 use mathlib.Core.List.{List, [], _∷_, _++_, map, map-map}
 use native.Mathlib.Omega.{arith}
-use borrow.Author.Tests.{eqb-true, eq-eqb, ne-eqb}
+use borrow.Author.Tests.{ne-eqb}
 use lib.Dec.{eqb, eqb→eq, eqb-refl}
 use lib.ListN.{length, getD, take, drop, length-map, take-append-drop}
 use Rattle.lists.specs.Tests.{same-test}
 use Rattle.lists.specs.Sums.{_∈_, counted, sum-none}
-use Rattle.lists.specs.Ranking.{rank}
 use Rattle.terms.specs.Bounds.{places, maxNumber}
 use Rattle.terms.specs.declared.orders.{Side.Side, Side.the-variants.Buy, Side.the-variants.Sell, Auction.Auction, Order.Order}
 use Rattle.book.specs.declared.Book.{Book}
 use Rattle.book.specs.Places.{isTaken}
 use Rattle.book.specs.Columns.{orderAt}
 use Rattle.book.specs.Resting.{resting, changed}
-use Rattle.book.specs.Rests.{resting-intro, resting-elim}
+use Rattle.book.specs.Rests.{resting-elim}
 use Rattle.book.specs.Sound.{SoundBook}
 use Rattle.queue.specs.Part.{takingPart, takingPart-elim, takingPart-distinct}
-use Rattle.queue.specs.Sides.{sameSide, sameSide-eq}
+use Rattle.queue.specs.Sides.{sameSide-eq}
 use Rattle.queue.specs.Distinct.{Distinct}
-use Rattle.queue.specs.Rank.{onSide, ranked, ranked-elim}
-use Rattle.queue.specs.Ranks.{placeOfRank, ranksFrom, along}
+use Rattle.queue.specs.Rank.{ranked, ranked-elim}
+use Rattle.queue.specs.Ranks.{placeOfRank, along}
 use Rattle.queue.specs.Reach.{resting-distinct}
-use Rattle.queue.specs.Queue.{RankOfBook, ranks-known, ranked-by-ranks}
-use Rattle.queue.specs.Fill.{Fill, fill, filledBy, hasNumber, fill-all, fill-length}
+use Rattle.queue.specs.Queue.{ranks-known, ranked-by-ranks}
+use Rattle.queue.specs.Fill.{Fill, fill, filledBy, hasNumber, fill-all}
 use Rattle.queue.specs.Shares.{sharesOf, lessened}
 use Rattle.queue.specs.Shared.{shares-fill, fill-orders, sharedAt, lessened-at, lessened-length, shared-at-fill}
 use Rattle.price.specs.Interest.{interest}
-use Rattle.auction.specs.declared.{Trade.Trade}
 use Rattle.auction.specs.Trades.{traded}
 use Rattle.auction.specs.Fills.{fills, tradesOf, trades-filled}
 use Rattle.auction.specs.After.{restOf}
-use Rattle.auction.specs.Fronts.{sharePairs, share-pairs}
+use Rattle.auction.specs.Fronts.{share-pairs}
 use Rattle.auction.specs.Settled.{settled, settled-changed}
 use Rattle.auction.specs.Trading.{ranksOn, sharesIn, tradesIn, restsIn}
 

@@ -1,16 +1,16 @@
 -- An auction from the columns of a book and the ranks of its queues: its outcome, its trades, and what rests at each place.
 use Prim.Native.Nat.{ℕ, _≤_}
 use mathlib.Core.Bool.{Bool}
-use mathlib.Core.List.{List, [], _∷_}
+use mathlib.Core.List.{List}
 use lib.Dec.{leb}
 use lib.ListN.{length}
-use Rattle.lists.specs.Tests.{tests, leb-total}
-use Rattle.lists.specs.Ranking.{rank, Ranked, Comparable, rank-ranked}
+use Rattle.lists.specs.Tests.{tests}
+use Rattle.lists.specs.Ranking.{rank, Ranked, rank-ranked}
 use Rattle.terms.specs.Bounds.{places}
 use Rattle.terms.specs.declared.orders.{Side.Side, Side.the-variants.Buy, Side.the-variants.Sell, Auction.Auction}
 use Rattle.book.specs.declared.Book.{Book}
 use Rattle.queue.specs.Ranks.{rankBound, ranksFrom, along}
-use Rattle.queue.specs.Placing.{ranks-length}
+use Rattle.queue.specs.Placing.{ranks-length, numbers-comparable}
 use Rattle.queue.specs.Shares.{sumsFrom, sharesOf, lessened}
 use Rattle.price.specs.Search.{sumBelow, offered, searchedIn}
 use Rattle.auction.specs.declared.{Trade.Trade, Outcome.Outcome}
@@ -49,8 +49,4 @@ pub ranks-few : (b : Book) (a : Auction) (s : Side) → length (ranksOn b a s) �
 ranks-few b a s = ranks-length s a (b .side) (b .validity) (b .limit) (b .number)
 
 pub ranks-ascend : (b : Book) (a : Auction) (s : Side) → Ranked leb (ranksOn b a s)
-ranks-ascend b a s = rank-ranked leb (λ x y z h k. omega tests) (ranksFrom s a (b .side) (b .validity) (b .limit) (b .number) 0 places) (any-two (ranksFrom s a (b .side) (b .validity) (b .limit) (b .number) 0 places))
-  where
-    any-two : (xs : List ℕ) → Comparable leb xs
-    any-two [] = tt
-    any-two (x ∷ xs) = ((λ y m. leb-total x y), any-two xs)
+ranks-ascend b a s = rank-ranked leb (λ x y z h k. omega tests) (ranksFrom s a (b .side) (b .validity) (b .limit) (b .number) 0 places) (numbers-comparable (ranksFrom s a (b .side) (b .validity) (b .limit) (b .number) 0 places))

@@ -32,8 +32,8 @@ wrote-four list at a b c d h =
     rw (e1, e2, e3) (sets-eq (a ∷ b ∷ c ∷ d ∷ []) list at h)
 
 pub quadruples-length : (price : ℕ) (ts : List Trade) → length (quadruples price ts) ≡ numbersPerTrade * length ts
-pub quadruples-length price [] = refl
-pub quadruples-length price (t ∷ ts) = omega (arith, quadruples-length price ts)
+quadruples-length price [] = refl
+quadruples-length price (t ∷ ts) = omega (arith, quadruples-length price ts)
 
 quadruples-append : (price : ℕ) (ts us : List Trade) → quadruples price (ts ++ us) ≡ quadruples price ts ++ quadruples price us
 quadruples-append price [] us = refl

@@ -6,7 +6,8 @@ ghost use Prim.Native.Nat.{_+_, _*_, _<_, _≤_, min};
 ghost use lib.Dec.{ltb};
 ghost use lib.ListN.{length, getD, drop};
 ghost use Rattle.auction.specs.Written.{quadruples, wrote};
-ghost use Rattle.auction.specs.Fronts.{advancedTo, numbersOf, pairedShares};
+ghost use Rattle.queue.specs.Ranks.{along};
+ghost use Rattle.auction.specs.Fronts.{advancedTo, pairedShares};
 
 // Numbers of the lent list for each trade: buy number, sell number, quantity, price.
 const NUMBERS: usize = 4;
@@ -63,7 +64,7 @@ fn write_trade(list: &mut [u32], k: usize, buy: u32, sell: u32, quantity: u32, p
 // The number of a queue's order.
 fn number_at<'a>(numbers: &'a [u32; 512], ranks: &'a [u64], i: usize) -> u32
     requires { ⌜ i < length (now ranks) ⌝ }
-    ensures { λ r. ⌜ r ≡ getD (numbersOf (now (numbers .entry)) (now (ranks .entry))) i 0 ⌝ }
+    ensures { λ r. ⌜ r ≡ getD (along (now (numbers .entry)) (now (ranks .entry))) i 0 ⌝ }
 {
     let place = queue::place_of_rank(ranks[i]);
     numbers[place]

@@ -13,6 +13,7 @@ use lib.ListN.{length, drop, length-append, length-drop}
 use lib.Seq.{drop-at}
 use Rattle.lists.specs.Tests.{tests, decided}
 use Rattle.lists.specs.Sums.{_∈_, counted, sum, sum-none, sum-map, le-sum}
+use Rattle.terms.specs.Orders.{auctionNumber}
 use Rattle.terms.specs.Bounds.{places, maxTrades, numbersPerTrade, tradeListLength}
 use Rattle.terms.specs.declared.orders.{Side.Side, Side.the-variants.Buy, Side.the-variants.Sell, Auction.Auction, Auction.the-variants.Opening, Auction.the-variants.Closing, Validity.Validity, Validity.the-variants.AtOpening, Validity.the-variants.AtClose, Validity.the-variants.Day, Validity.the-variants.LaterDay, Order.Order}
 use Rattle.book.specs.declared.Book.{Book}
@@ -38,7 +39,7 @@ use Rattle.session.specs.declared.{Session.Session}
 use Rattle.session.specs.Sound.{Sound}
 use Rattle.session.specs.Auctions.{AuctionLeaves, part, outcomeOf, tradesNow, sessionAfter, auctionDone, auctioned}
 use Rattle.demands.specs.Traded.{Ranged, sound-ranged, no-list-moves-more, bought-is-sold, nobody-passed-over, nothing-left-could-trade, list-of-trades}
-use Rattle.demands.specs.Outcomes.{auctionNumber, CarriedOut, carried-out}
+use Rattle.demands.specs.Outcomes.{CarriedOut, carried-out}
 
 -- the first k quadruples of a lent list, read back: the trades, and the price beside each; fewer where the list ends before
 abbrev pub tradesRead : ℕ → List ℕ → List Trade

@@ -13,7 +13,7 @@ use lib.ListN.{length}
 use Rattle.lists.specs.Tests.{tests, and-both}
 use Rattle.terms.specs.Bounds.{tradeListLength}
 use Rattle.terms.specs.Kinds.{isReference}
-use Rattle.terms.specs.Orders.{isAuction, auctionOf}
+use Rattle.terms.specs.Orders.{auctionNumber, isAuction, auctionOf}
 use Rattle.terms.specs.declared.orders.{Auction.Auction, Auction.the-variants.Opening, Auction.the-variants.Closing, AuctionMade.AuctionMade, Entry.Entry}
 use Rattle.terms.specs.declared.parameters.{Parameters.Parameters}
 use Rattle.book.specs.Resting.{resting}
@@ -38,11 +38,7 @@ use Rattle.demands.specs.Sequences.{Call, after, run}
 use Rattle.demands.specs.Prices.{price-is-legal}
 use Rattle.demands.specs.Traded.{sound-ranged, every-closing-takes-place}
 
--- the number that asks for an auction: 1 opening, 2 closing
-abbrev pub auctionNumber : Auction → ℕ
-auctionNumber Opening = 1
-auctionNumber Closing = 2
-
+-- an auction asked for by its number is that auction
 pub auction-numbered : (a : Auction) → auctionOf (auctionNumber a) ≡ AuctionMade.Good a
 auction-numbered Opening = refl
 auction-numbered Closing = refl

@@ -11,7 +11,7 @@ use lib.Seq.{take-at, drop-at}
 use Rattle.lists.specs.Sums.{_∈_, counted, counted-le, sum, sum-mono, sum-ones}
 use Rattle.lists.specs.Ranking.{Ranked}
 use Rattle.terms.specs.Bounds.{places}
-use Rattle.terms.specs.Orders.{sideOf, sideNumber}
+use Rattle.terms.specs.Orders.{auctionNumber, sideOf, sideNumber}
 use Rattle.terms.specs.declared.orders.{Side.Side, Side.the-variants.Buy, Side.the-variants.Sell, SideMade.SideMade, Auction.Auction, Order.Order}
 use Rattle.book.specs.Resting.{resting}
 use Rattle.queue.specs.Part.{takesPart, takingPart, takingPart-distinct, takingPart-elim, takingPart-intro, takingPart-length}
@@ -26,7 +26,7 @@ use Rattle.session.specs.Queues.{QueueLeaves, rankedChecks, rankedNumbers, queu
 use Rattle.session.specs.QueueCalls.{queue-room}
 use Rattle.demands.specs.Answers.{ranked-exactly}
 use Rattle.demands.specs.Traded.{sound-ranged}
-use Rattle.demands.specs.Outcomes.{auctionNumber, auction-numbered}
+use Rattle.demands.specs.Outcomes.{auction-numbered}
 
 pub record RankOrder (s : Side) : Type 0 where
   pub irreflexive : (a : Order) → T (ahead s a a) → ⊥

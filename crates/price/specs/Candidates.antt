@@ -9,9 +9,9 @@ use Rattle.lists.specs.Tests.{decided, and-both, and-intro}
 use Rattle.lists.specs.Sums.{_∈_, counted, counted-mono}
 use Rattle.lists.specs.Choice.{highest, le-highest}
 use Rattle.terms.specs.declared.orders.{Side.Side, Side.the-variants.Buy, Side.the-variants.Sell, Limit.Limit, Limit.the-variants.Unlimited, Limit.the-variants.At, Order.Order}
-use Rattle.queue.specs.Sides.{noWorse-refl}
+use Rattle.queue.specs.Sides.{allows, noWorse-refl}
 use Rattle.queue.specs.Rank.{onSide}
-use Rattle.price.specs.Interest.{allows, accepts, interest, executable, tighter, interest-mono}
+use Rattle.price.specs.Interest.{accepts, interest, executable, tighter, interest-mono}
 
 -- the limits of the orders taking part ..
 abbrev pub addLimit : Limit → List ℕ → List ℕ

@@ -1,19 +1,14 @@
 -- Interest: 01 "The price", demand, supply and the executable quantity at a price. `book` is the list of orders taking part.
 use Prim.Native.Nat.{ℕ, _≤_, min}
-use mathlib.Core.Bool.{Bool, true, not, _&&_}
+use mathlib.Core.Bool.{Bool, not, _&&_}
 use mathlib.Core.Logic.{_⊎_, inl, inr, ⊎-map}
 use mathlib.Core.List.{List}
 use lib.Dec.{T}
 use Rattle.lists.specs.Tests.{tests, and-mono}
 use Rattle.lists.specs.Sums.{apart, counted, counted-mono, sum, sum-mono}
 use Rattle.terms.specs.declared.orders.{Side.Side, Side.the-variants.Buy, Side.the-variants.Sell, Limit.Limit, Limit.the-variants.Unlimited, Limit.the-variants.At, Order.Order}
-use Rattle.queue.specs.Sides.{noWorse, noWorse-trans, noWorse-total}
+use Rattle.queue.specs.Sides.{noWorse, allows, noWorse-trans, noWorse-total}
 use Rattle.queue.specs.Rank.{betterLimit, onSide, ahead, ahead-limit}
-
--- a limit allows the price p: it is unlimited, or (buys) at least p, (sells) at most p
-abbrev pub allows : Side → ℕ → Limit → Bool
-allows s p Unlimited = true
-allows s p (At l) = noWorse s p l
 
 -- the order is of side s and can trade at p
 abbrev pub accepts : Side → ℕ → Order → Bool

@@ -8,25 +8,19 @@ use native.Mathlib.Omega.{arith}
 use lib.Dec.{T, ltb}
 use lib.ListN.{length, getD, take}
 use lib.Seq.{getD-take}
-use Rattle.lists.specs.Sums.{_∈_, counted, counted-and, sum, sum-none, sum-same}
+use Rattle.lists.specs.Sums.{_∈_, counted, counted-and, sum, sum-same}
 use Rattle.terms.specs.declared.orders.{Side.Side, Order.Order}
+use Rattle.queue.specs.Sides.{allows}
 use Rattle.queue.specs.Distinct.{Distinct}
-use Rattle.queue.specs.Fill.{FrontPart, ranked-front}
+use Rattle.queue.specs.Fill.{none-pass, FrontPart, ranked-front}
 use Rattle.queue.specs.Rank.{onSide, ranked, ranked-sum, ranked-in-order}
 use Rattle.queue.specs.Ranks.{rankBound}
 use Rattle.queue.specs.Shares.{sumsFrom}
-use Rattle.price.specs.Interest.{allows, interest, allows-ahead}
+use Rattle.price.specs.Interest.{interest, allows-ahead}
 use Rattle.price.specs.Search.{countBelow, sumBelow, offered}
 use Rattle.price.specs.Below.{count-le}
 
 module _ (f : Order → Bool) (bound : ℕ) (orderOf : ℕ → Order) where
-  nothing : (os : List Order) → ((x : Order) → x ∈ os → T (f x) → ⊥) → sum (λ o. counted (f o) (o .left)) os ≡ 0
-  nothing os h = sum-none (λ o. counted (f o) (o .left)) os (λ o m. go (f o) (o .left) (h o m))
-    where
-      go : (b : Bool) (n : ℕ) → (T b → ⊥) → counted b n ≡ 0
-      go true n k = absurd (k tt)
-      go false n k = refl
-
   -- the sum of as many first orders as there are ranks below the bound
   front-sum : (total : ℕ) (ranks : List ℕ) → ((r : ℕ) → r ∈ ranks → ltb r bound ≡ f (orderOf r)) → FrontPart f (map orderOf ranks)
       → getD (sumsFrom total (map (λ r. orderOf r .left) ranks)) (countBelow bound ranks) 0 ≡ total + sum (λ o. counted (f o) (o .left)) (map orderOf ranks)
@@ -42,7 +36,7 @@ module _ (f : Order → Bool) (bound : ℕ) (orderOf : ℕ → Order) where
           → getD (sumsFrom (total + orderOf r .left) (map (λ r. orderOf r .left) ranks)) (countBelow bound ranks) 0 ≡ total + orderOf r .left + rest
           → getD (total ∷ sumsFrom (total + orderOf r .left) (map (λ r. orderOf r .left) ranks)) (cond b (suc (countBelow bound ranks)) 0) 0 ≡ total + (counted b (orderOf r .left) + rest)
       go true h e = omega arith
-      go false h e = omega (arith, nothing (map orderOf ranks) h)
+      go false h e = omega (arith, none-pass f (map orderOf ranks) h)
 
 -- What the orders with ranks below the bound have open, where they are those that pass the test.
 pub sum-below-front : (f : Order → Bool) (bound : ℕ) (orderOf : ℕ → Order) (ranks sums : List ℕ)

@@ -8,12 +8,11 @@ use crate::weigh::weigh;
 use terms::Limit;
 use terms::Side;
 ghost use mathlib.Core.Path.{_≡_};
-ghost use mathlib.Core.List.{map};
 ghost use Prim.Native.Nat.{_<_};
 ghost use lib.Dec.{leb};
-ghost use lib.ListN.{length, getD};
+ghost use lib.ListN.{length};
 ghost use Rattle.lists.specs.Ranking.{Ranked};
-ghost use Rattle.queue.specs.Ranks.{placeOfRank};
+ghost use Rattle.queue.specs.Ranks.{along};
 ghost use Rattle.price.specs.Search.{countBelow, sumBelow, offered, weighAll, foundIn, searchedIn};
 ghost use Rattle.terms.specs.declared.orders.{Side.the-variants.Buy, Side.the-variants.Sell};
 
@@ -69,7 +68,7 @@ fn weigh_limits<'a>(
     sell_sums: &'a [u64],
 ) -> Weighed
     requires { ⌜ Ranked leb (now buys) × (length (now buys) < length (now «buy_sums»)) × Ranked leb (now sells) × (length (now sells) < length (now «sell_sums»)) ⌝ }
-    ensures { λ r. ⌜ r ≡ weighAll reference (offered Buy (now (buys .entry)) (now («buy_sums» .entry))) (offered Sell (now (sells .entry)) (now («sell_sums» .entry))) (map (λ x. getD (now (limits .entry)) (placeOfRank x) 0) (now (ranks .entry))) start ⌝ }
+    ensures { λ r. ⌜ r ≡ weighAll reference (offered Buy (now (buys .entry)) (now («buy_sums» .entry))) (offered Sell (now (sells .entry)) (now («sell_sums» .entry))) (along (now (limits .entry)) (now (ranks .entry))) start ⌝ }
 {
     let mut w = start;
     let mut i: usize = 0;
@@ -123,7 +122,7 @@ pub fn searched<'a>(
     sell_sums: &'a [u64],
 ) -> Found
     requires { ⌜ Ranked leb (now buys) × (length (now buys) < length (now «buy_sums»)) × Ranked leb (now sells) × (length (now sells) < length (now «sell_sums»)) ⌝ }
-    ensures { λ r. ⌜ r ≡ searchedIn reference (offered Buy (now (buys .entry)) (now («buy_sums» .entry))) (offered Sell (now (sells .entry)) (now («sell_sums» .entry))) (map (λ x. getD (now (limits .entry)) (placeOfRank x) 0) (now (buys .entry))) (map (λ x. getD (now (limits .entry)) (placeOfRank x) 0) (now (sells .entry))) ⌝ }
+    ensures { λ r. ⌜ r ≡ searchedIn reference (offered Buy (now (buys .entry)) (now («buy_sums» .entry))) (offered Sell (now (sells .entry)) (now («sell_sums» .entry))) (along (now (limits .entry)) (now (buys .entry))) (along (now (limits .entry)) (now (sells .entry))) ⌝ }
 {
     let demand = offer(Side::Buy, reference, buys, buy_sums);
     let supply = offer(Side::Sell, reference, sells, sell_sums);

@@ -69,7 +69,8 @@ pub front-all : (os : List Order) → FrontPart (λ o. true) os
 front-all [] = tt
 front-all (o ∷ os) = ((λ x m k. tt), front-all os)
 
-none-pass : (f : Order → Bool) (os : List Order) → ((x : Order) → x ∈ os → T (f x) → ⊥) → sum (λ o. counted (f o) (o .left)) os ≡ 0
+-- nothing is counted where none passes
+pub none-pass : (f : Order → Bool) (os : List Order) → ((x : Order) → x ∈ os → T (f x) → ⊥) → sum (λ o. counted (f o) (o .left)) os ≡ 0
 none-pass f os h = sum-none (λ o. counted (f o) (o .left)) os (λ o m. go (f o) (o .left) (h o m))
   where
     go : (b : Bool) (n : ℕ) → (T b → ⊥) → counted b n ≡ 0

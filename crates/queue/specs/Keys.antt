@@ -1,6 +1,6 @@
 -- Ranks as numbers compare as orders do: by limit, then by number.
 use Prim.Native.Nat.{ℕ, zero, suc, _+_, _-_, _*_, _≤_, _<_}
-use mathlib.Core.Bool.{Bool, true, false, not, _&&_, _||_}
+use mathlib.Core.Bool.{not, _&&_, _||_}
 use mathlib.Core.Logic.{_≢_, ⊎-elim}
 use mathlib.Core.Path.{_≡_, refl, sym, _∙_}
 use native.Mathlib.Omega.{arith}
@@ -9,8 +9,8 @@ use lib.Dec.{T, not-T, leb, ltb}
 use Rattle.lists.specs.Tests.{tests, decided, same-test, and-both, and-intro, or-cases, or-left, or-right}
 use Rattle.terms.specs.Bounds.{places, maxNumber}
 use Rattle.terms.specs.Orders.{limitFrom}
-use Rattle.terms.specs.declared.orders.{Side.Side, Side.the-variants.Buy, Side.the-variants.Sell, Limit.Limit, Limit.the-variants.Unlimited, Limit.the-variants.At}
-use Rattle.queue.specs.Sides.{noWorse}
+use Rattle.terms.specs.declared.orders.{Side.Side, Side.the-variants.Buy, Side.the-variants.Sell}
+use Rattle.queue.specs.Sides.{allows, isUnlimited}
 use Rattle.queue.specs.Rank.{betterLimit}
 use Rattle.queue.specs.Ranks.{limitRoom, keyRoom, priceKey, rankOf, rankBound, placeOfRank}
 
@@ -52,16 +52,7 @@ number-better k j n m p q hn hm d hp hq = same-test (leb (k * keyRoom + n * plac
 key-within : (k j n p : ℕ) → n ≤ maxNumber → p < places → ltb (k * keyRoom + n * places + p) ((j + 1) * keyRoom) ≡ leb k j
 key-within k j n p hn hp = same-test (ltb (k * keyRoom + n * places + p) ((j + 1) * keyRoom)) (leb k j) (λ t. omega tests) (λ t. omega tests)
 
--- a limit allows a price; no price at all is allowed by the unlimited ones
-abbrev pub allowed : Side → ℕ → Limit → Bool
-allowed s price Unlimited = true
-allowed s price (At l) = noWorse s price l
-
-abbrev pub isUnlimited : Limit → Bool
-isUnlimited Unlimited = true
-isUnlimited (At l) = false
-
-key-allows : (s : Side) (l price : ℕ) → l < limitRoom → 0 < price → price < limitRoom → leb (priceKey s l) (priceKey s price) ≡ allowed s price (limitFrom l)
+key-allows : (s : Side) (l price : ℕ) → l < limitRoom → 0 < price → price < limitRoom → leb (priceKey s l) (priceKey s price) ≡ allows s price (limitFrom l)
 key-allows s l zero h low high = absurd (omega arith)
 key-allows Buy zero (suc p) h low high = rw (buy-key p) (le-leb 0 (limitRoom - suc p) (omega arith))
 key-allows Sell zero (suc p) h low high = le-leb 0 (suc p) (omega arith)
@@ -91,7 +82,7 @@ module _ (s : Side) (l n p : ℕ) (here : p < places) where
         ∙ rw (key-better s l m small little, key-better s m l little small)
 
     -- it is below the bound of a price where its limit allows the price
-    pub rank-allows : (price : ℕ) → 0 < price → price < limitRoom → ltb (rankOf s l n p) (rankBound s price) ≡ allowed s price (limitFrom l)
+    pub rank-allows : (price : ℕ) → 0 < price → price < limitRoom → ltb (rankOf s l n p) (rankBound s price) ≡ allows s price (limitFrom l)
     rank-allows price low high = key-within (priceKey s l) (priceKey s price) n p given here ∙ key-allows s l price small low high
 
     -- .. and below that of no price where it is unlimited

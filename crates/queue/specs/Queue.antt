@@ -20,11 +20,11 @@ use Rattle.book.specs.Places.{isTaken}
 use Rattle.book.specs.Columns.{sideFrom, validityFrom, Raw, orderAt}
 use Rattle.book.specs.Resting.{restingAt, restingTo, resting}
 use Rattle.book.specs.Sound.{SoundBook}
-use Rattle.queue.specs.Sides.{sameSide}
+use Rattle.queue.specs.Sides.{sameSide, allows, isUnlimited}
 use Rattle.queue.specs.Part.{takesPart, takingPart}
 use Rattle.queue.specs.Rank.{ahead, onSide, ranked}
 use Rattle.queue.specs.Ranks.{limitRoom, rankOf, rankBound, placeOfRank, takesPartAs, standsAs, ranksFrom}
-use Rattle.queue.specs.Keys.{allowed, isUnlimited, rank-place, rank-ahead, rank-allows, rank-unlimited}
+use Rattle.queue.specs.Keys.{rank-place, rank-ahead, rank-allows, rank-unlimited}
 
 -- the orders that rest at n places from one on, by place
 unfoldable restingFrom : Book → ℕ → ℕ → List Order
@@ -95,7 +95,7 @@ module _ (step given : ℕ) (b : Book) (sound : SoundBook step given b) (enough 
 
     -- A rank is below the bound of a price where the limit allows the price, and below that of none where there is no limit.
     pub allows-below : (price : ℕ) → 0 < price → price < limitRoom
-        → ltb (rankOf s (getD (b .limit) p 0) (getD (b .number) p 0) p) (rankBound s price) ≡ allowed s price (orderAt b p .limit)
+        → ltb (rankOf s (getD (b .limit) p 0) (getD (b .number) p 0) p) (rankBound s price) ≡ allows s price (orderAt b p .limit)
     allows-below price low high = rank-allows s (getD (b .limit) p 0) (getD (b .number) p 0) p here small-limit small-number price low high
 
     pub unlimited-below : ltb (rankOf s (getD (b .limit) p 0) (getD (b .number) p 0) p) (rankBound s 0) ≡ isUnlimited (orderAt b p .limit)

@@ -5,7 +5,7 @@ use mathlib.Core.Logic.{_⊎_}
 use mathlib.Core.Path.{_≡_, refl}
 use lib.Dec.{T, leb}
 use Rattle.lists.specs.Tests.{tests, leb-total}
-use Rattle.terms.specs.declared.orders.{Side.Side, Side.the-variants.Buy, Side.the-variants.Sell}
+use Rattle.terms.specs.declared.orders.{Side.Side, Side.the-variants.Buy, Side.the-variants.Sell, Limit.Limit, Limit.the-variants.Unlimited, Limit.the-variants.At}
 
 abbrev pub sameSide : Side → Side → Bool
 sameSide Buy Buy = true
@@ -17,6 +17,15 @@ sameSide Sell Sell = true
 abbrev pub noWorse : Side → ℕ → ℕ → Bool
 noWorse Buy p q = leb p q
 noWorse Sell p q = leb q p
+
+-- a limit allows the price p: it is unlimited, or (buys) at least p, (sells) at most p
+abbrev pub allows : Side → ℕ → Limit → Bool
+allows s p Unlimited = true
+allows s p (At l) = noWorse s p l
+
+abbrev pub isUnlimited : Limit → Bool
+isUnlimited Unlimited = true
+isUnlimited (At p) = false
 
 pub noWorse-refl : (s : Side) (p : ℕ) → T (noWorse s p p)
 noWorse-refl Buy p = omega tests

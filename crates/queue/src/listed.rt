@@ -1,15 +1,15 @@
 // The ranked queue as order numbers (01 "Outcomes", ranked queue).
 use crate::shares::place_of_rank;
 ghost use mathlib.Core.Path.{_≡_};
-ghost use mathlib.Core.List.{map, _++_};
+ghost use mathlib.Core.List.{_++_};
 ghost use Prim.Native.Nat.{_≤_};
-ghost use lib.ListN.{length, getD, drop};
-ghost use Rattle.queue.specs.Ranks.{placeOfRank};
+ghost use lib.ListN.{length, drop};
+ghost use Rattle.queue.specs.Ranks.{along};
 
 // The numbers of a queue's orders, from the front of a list.
 pub fn list_numbers<'a>(list: &mut [u32], ranks: &'a [u64], numbers: &'a [u32; 512])
     requires { ⌜ length (now ranks) ≤ length (now list) ⌝ }
-    ensures { λ r. ⌜ now (list .exit) ≡ map (λ x. getD (now (numbers .entry)) (placeOfRank x) 0) (now (ranks .entry)) ++ drop (length (now (ranks .entry))) (now (list .entry)) ⌝ }
+    ensures { λ r. ⌜ now (list .exit) ≡ along (now (numbers .entry)) (now (ranks .entry)) ++ drop (length (now (ranks .entry))) (now (list .entry)) ⌝ }
 {
     let mut i: usize = 0;
     while i < ranks.len() {

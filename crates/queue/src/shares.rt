@@ -1,10 +1,9 @@
 // Sums and shares along a ranked queue: what the first orders have open in all, and what each gets of a total.
 use terms::Place;
 ghost use mathlib.Core.Path.{_≡_};
-ghost use mathlib.Core.List.{map};
 ghost use Prim.Native.Nat.{_+_, _-_, _<_, _≤_, min};
 ghost use lib.ListN.{length, getD, take};
-ghost use Rattle.queue.specs.Ranks.{placeOfRank};
+ghost use Rattle.queue.specs.Ranks.{placeOfRank, along};
 ghost use Rattle.queue.specs.Shares.{sumsFrom, sharesOf, lessened};
 
 // Where the order of a rank stands.
@@ -42,7 +41,7 @@ fn less(left: u32, share: u32) -> u32
 // What the first 0, 1, 2 .. orders of a queue have open in all, from the front of a list.
 pub fn sum_up<'a>(ranks: &'a [u64], lefts: &'a [u32; 512], sums: &mut [u64])
     requires { ⌜ (length (now ranks) ≤ 512) × (length (now ranks) < length (now sums)) ⌝ }
-    ensures { λ r. ⌜ take (length (now (ranks .entry)) + 1) (now (sums .exit)) ≡ sumsFrom 0 (map (λ x. getD (now (lefts .entry)) (placeOfRank x) 0) (now (ranks .entry))) ⌝ }
+    ensures { λ r. ⌜ take (length (now (ranks .entry)) + 1) (now (sums .exit)) ≡ sumsFrom 0 (along (now (lefts .entry)) (now (ranks .entry))) ⌝ }
 {
     let mut total: u64 = 0;
     let mut i: usize = 0;
@@ -57,7 +56,7 @@ pub fn sum_up<'a>(ranks: &'a [u64], lefts: &'a [u32; 512], sums: &mut [u64])
 // What the orders of a queue get of a total, the first of it first, from the front of a list; how many get anything.
 pub fn share_out<'a>(total: u64, ranks: &'a [u64], lefts: &'a [u32; 512], list: &mut [u32]) -> usize
     requires { ⌜ length (now ranks) ≤ length (now list) ⌝ }
-    ensures { λ r. ⌜ (r ≤ length (now (ranks .entry))) × (take r (now (list .exit)) ≡ sharesOf total (map (λ x. getD (now (lefts .entry)) (placeOfRank x) 0) (now (ranks .entry)))) ⌝ }
+    ensures { λ r. ⌜ (r ≤ length (now (ranks .entry))) × (take r (now (list .exit)) ≡ sharesOf total (along (now (lefts .entry)) (now (ranks .entry)))) ⌝ }
 {
     let mut rest = total;
     let mut i: usize = 0;

@@ -3,30 +3,29 @@ use Prim.Native.Nat.{ℕ, zero, suc, _*_, _≤_}
 use mathlib.Core.Bool.{true, not}
 use mathlib.Core.Logic.{_≢_}
 use mathlib.Core.Path.{_≡_, refl, sym, ap, _∙_}
-use mathlib.Core.List.{List, [], _++_}
+use mathlib.Core.List.{List, _++_}
 use native.Mathlib.Omega.{arith}
 use borrow.Author.Tests.{ltb-false}
 use lib.Dec.{T}
 use lib.ListN.{length, drop}
-use Rattle.terms.specs.Bounds.{places, numbersPerTrade, tradeListLength}
+use Rattle.terms.specs.Bounds.{places, tradeListLength}
 use Rattle.terms.specs.Orders.{isAuction, auctionOf}
 use Rattle.terms.specs.Made.{auction-made}
-use Rattle.terms.specs.declared.orders.{Side.Side, Side.the-variants.Buy, Side.the-variants.Sell, Auction.Auction, AuctionMade.AuctionMade, Order.Order}
+use Rattle.terms.specs.declared.orders.{Side.Side, Side.the-variants.Buy, Side.the-variants.Sell, Auction.Auction, AuctionMade.AuctionMade}
 use Rattle.book.specs.declared.Book.{Book}
-use Rattle.book.specs.Resting.{resting, changed}
+use Rattle.book.specs.Resting.{resting}
 use Rattle.book.specs.Rests.{resting-length}
 use Rattle.queue.specs.Part.{takingPart-length}
 use Rattle.price.specs.Interest.{interest, executable}
 use Rattle.auction.specs.declared.{Trade.Trade, Outcome.Outcome, Outcome.the-variants.Traded, Outcome.the-variants.NoTrade, Outcome.the-variants.NonOpening, Outcome.the-variants.Delayed}
 use Rattle.auction.specs.Fills.{tradesOf, trades-none, trades-count}
 use Rattle.auction.specs.Outcome.{outcome, trades, outcome-traded}
-use Rattle.auction.specs.After.{restOf}
 use Rattle.auction.specs.Settled.{settled}
 use Rattle.auction.specs.Trading.{ranksOn, outcomeIn, tradesIn, restsIn}
 use Rattle.auction.specs.OutcomeIn.{outcome-in}
 use Rattle.auction.specs.TradesIn.{trades-in, rests-in}
-use Rattle.auction.specs.Written.{quadruples, written}
-use Rattle.session.specs.declared.{Phase.Phase, Session.Session, AuctionAnswer.AuctionAnswer, Auctioned.Auctioned, Foreseen.Foreseen}
+use Rattle.auction.specs.Written.{quadruples}
+use Rattle.session.specs.declared.{Phase.Phase, Session.Session, AuctionAnswer.AuctionAnswer}
 use Rattle.session.specs.Phases.{hasStarted, phaseAfter}
 use Rattle.session.specs.Checks.{firstHit}
 use Rattle.session.specs.Exactly.{none-hit}

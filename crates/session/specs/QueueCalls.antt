@@ -15,11 +15,11 @@ use Rattle.terms.specs.declared.orders.{Side.Side, SideMade.SideMade, Auction.A
 use Rattle.book.specs.Columns.{orderAt}
 use Rattle.queue.specs.Ranks.{placeOfRank, along}
 use Rattle.queue.specs.Rank.{ranked}
-use Rattle.session.specs.declared.{Session.Session, Queued.Queued}
+use Rattle.session.specs.declared.{Session.Session}
 use Rattle.session.specs.Checks.{firstHit}
 use Rattle.session.specs.Exactly.{none-hit}
 use Rattle.session.specs.Auctions.{part}
-use Rattle.session.specs.Queues.{rankedChecks, queueLeaves, queueRefused, queueDone, rankedNumbers, rankedAnswer, queued}
+use Rattle.session.specs.Queues.{rankedChecks, queueLeaves, queueRefused, rankedNumbers, rankedAnswer, queued}
 
 -- where the ranked queue is not refused, the side and the auction are ones
 queue-asked : (s : Session) (side which size : ℕ) → firstHit (rankedChecks s side which size) ≡ 0 → T (isSide side) × T (isAuction which)

@@ -5,10 +5,9 @@ use mathlib.Core.List.{List}
 use native.Mathlib.Omega.{arith}
 use lib.Dec.{T}
 use lib.ListN.{length}
-use Rattle.lists.specs.Sums.{_∈_}
 use Rattle.terms.specs.Kinds.{isReference}
-use Rattle.terms.specs.Orders.{isAuction, isLegal, auctionOf}
-use Rattle.terms.specs.declared.orders.{Auction.Auction, Auction.the-variants.Opening, Auction.the-variants.Closing, AuctionMade.AuctionMade, Order.Order}
+use Rattle.terms.specs.Orders.{auctionOf}
+use Rattle.terms.specs.declared.orders.{Auction.Auction, Auction.the-variants.Opening, Auction.the-variants.Closing, AuctionMade.AuctionMade}
 use Rattle.queue.specs.Part.{takingPart-elim}
 use Rattle.queue.specs.Reach.{resting-sound}
 use Rattle.book.specs.Changed.{changed-book-sound}
@@ -18,7 +17,7 @@ use Rattle.auction.specs.declared.{Trade.Trade, Outcome.Outcome, Outcome.the-va
 use Rattle.auction.specs.Outcome.{trades, outcome-traded}
 use Rattle.auction.specs.After.{restOf}
 use Rattle.auction.specs.Settled.{rest-keeps}
-use Rattle.session.specs.declared.{Session.Session, Phase.Phase, Phase.the-variants.Fresh, Phase.the-variants.PreOpening, Phase.the-variants.Day, Phase.the-variants.Closed}
+use Rattle.session.specs.declared.{Session.Session, Phase.the-variants.Fresh}
 use Rattle.session.specs.Phases.{hasStarted, phaseAfter}
 use Rattle.session.specs.Checks.{firstHit}
 use Rattle.session.specs.Exactly.{none-hit}

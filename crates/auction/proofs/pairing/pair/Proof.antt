@@ -6,13 +6,14 @@ use native.Mathlib.Omega.{arith}
 use borrow.Author.Needs.{needs}
 use lib.Dec.{ltb}
 use lib.ListN.{length}
-use Rattle.auction.specs.Fronts.{numbersOf, numbers-length}
+use Rattle.queue.specs.Ranks.{along}
+use Rattle.auction.specs.Fronts.{numbers-length}
 use Rattle.auction.specs.Turns.{State, state-start, state-end, state-on, state-step}
 use Rattle.auction.proofs.pairing.pair.Statement.{statement}
 use Rattle.auction.proofs.pairing.pair.Tie as tie
 
 abbrev Inv-loop : tie.InvT-loop
-Inv-loop list₀ price numbers buys bought sells sold b₀ s₀ k₀ list b s k = State (numbersOf numbers buys) bought (numbersOf numbers sells) sold price list₀ list b s k
+Inv-loop list₀ price numbers buys bought sells sold b₀ s₀ k₀ list b s k = State (along numbers buys) bought (along numbers sells) sold price list₀ list b s k
 
 abbrev μ-loop : tie.MeasureT-loop
 μ-loop list₀ price numbers buys bought sells sold b₀ s₀ k₀ list b s k = length bought + length sold - k

@@ -1,4 +1,3 @@
-use native.Mathlib.Omega.{arith}
 use mathlib.Core.Path.{sym, _∙_}
 use Rattle.session.specs.AuctionCalls.{theoretical-turned-down, theoretical-called, theoretical-started, theoretical-foreseen}
 use borrow.Author.Needs.{needs}
