@@ -4,6 +4,7 @@ mod decide;
 mod pairing;
 mod trading;
 
+use terms::Place;
 pub use trading::Closed;
 pub use trading::count_trades;
 pub use trading::outcome_now;
@@ -14,6 +15,14 @@ pub struct Trade {
     pub buy: u32,
     pub sell: u32,
     pub quantity: u32,
+}
+
+impl Trade {
+    // Of one auction: one fewer than orders.
+    pub const MOST: usize = Place::COUNT - 1;
+
+    // Numbers of the lent list for each: buy number, sell number, quantity, price.
+    pub const NUMBERS: usize = 4;
 }
 
 // The outcome of an auction, with its price and quantity where it has them.

@@ -1,5 +1,6 @@
 // The trades: the two queues' shares paired from the front, each trade the smaller of the two (01 "Outcomes").
 ghost use mathlib.Core.Bool.{_&&_};
+use crate::Trade;
 ghost use mathlib.Core.Path.{_≡_};
 ghost use mathlib.Core.List.{_∷_, [], _++_};
 ghost use Prim.Native.Nat.{_+_, _*_, _<_, _≤_, min};
@@ -8,9 +9,6 @@ ghost use lib.ListN.{length, getD, drop};
 ghost use Rattle.auction.specs.Written.{quadruples, wrote};
 ghost use Rattle.queue.specs.Ranks.{along};
 ghost use Rattle.auction.specs.Fronts.{advancedTo, pairedShares};
-
-// Numbers of the lent list for each trade: buy number, sell number, quantity, price.
-const NUMBERS: usize = 4;
 
 // Where a queue is: the share at its front, and what is left of it.
 pub struct Front {
@@ -52,8 +50,8 @@ fn write_trade(list: &mut [u32], k: usize, buy: u32, sell: u32, quantity: u32, p
     requires { ⌜ k < 1024 ⌝ }
     ensures { λ r. ⌜ now (list .exit) ≡ wrote k (buy ∷ sell ∷ quantity ∷ price ∷ []) (now (list .entry)) ⌝ }
 {
-    let at = k * NUMBERS;
-    if at + NUMBERS <= list.len() {
+    let at = k * Trade::NUMBERS;
+    if at + Trade::NUMBERS <= list.len() {
         list[at] = buy;
         list[at + 1] = sell;
         list[at + 2] = quantity;

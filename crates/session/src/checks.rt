@@ -1,6 +1,7 @@
 // The checks of the calls: 01 "Refusals by number", in its order.
 use crate::Phase;
 use crate::Session;
+use auction::Trade;
 use terms::Auction;
 use terms::Entry;
 use terms::Limit;
@@ -21,8 +22,8 @@ ghost use Rattle.session.specs.Entry.{orderChecks, deleteRows};
 ghost use Rattle.session.specs.Auctions.{auctionRows, theoreticalRows, auctionRefusal};
 ghost use Rattle.session.specs.Queues.{rankedRows, frontChecks};
 
-// Numbers that an auction asks of the lent list: four for each of at most 511 trades.
-const TRADE_LIST: usize = 4 * (Place::COUNT - 1);
+// Numbers that an auction asks of the lent list.
+const TRADE_LIST: usize = Trade::NUMBERS * Trade::MOST;
 
 pub fn has_started(phase: Phase) -> bool
     ensures { λ r. ⌜ r ≡ hasStarted phase ⌝ }
