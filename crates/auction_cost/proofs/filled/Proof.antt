@@ -1,0 +1,61 @@
+use Prim.Native.Nat.{_≤_, _-_}
+use mathlib.Core.Path.{sym, subst}
+use native.Mathlib.Omega.{arith}
+use borrow.Author.Needs.{needs}
+use Rattle.session.specs.Sound.{Sound, entered-sound}
+use Rattle.session.specs.declared.{Entered.Entered}
+use Rattle.auction_cost.proofs.filled.Statement.{statement}
+use Rattle.auction_cost.proofs.filled.Tie as tie
+
+abbrev Inv-loop : tie.InvT-loop
+Inv-loop orders which session₀ x₀ i₀ session x i = Sound session × (x ≤ 65536)
+
+abbrev μ-loop : tie.MeasureT-loop
+μ-loop orders which session₀ x₀ i₀ session x i = orders - i
+
+started-requires : tie.Need-started-requires Inv-loop μ-loop
+started-requires c κs = search needs
+
+loop-holds : tie.Need-loop-holds Inv-loop μ-loop
+loop-holds c = (c .started .ensures, omega arith)
+
+chosen-requires : tie.Need-chosen-requires Inv-loop μ-loop
+chosen-requires c κs = (omega (arith, c .before .before .before .pre), c .before .loop .inv .1)
+
+order-requires : tie.Need-order-requires Inv-loop μ-loop
+order-requires c κs = c .before .before .loop .inv .0
+
+next-requires : tie.Need-next-requires Inv-loop μ-loop
+next-requires c κs = c .before .before .before .before .loop .inv .1
+
+add-i : tie.Need-add-i Inv-loop μ-loop
+add-i c = omega arith
+
+loop-less : tie.Need-loop-less Inv-loop μ-loop
+loop-less c = omega arith
+
+loop-again : tie.Need-loop-again Inv-loop μ-loop
+loop-again c = (
+  subst (λ (r : Entered). Sound (r .session)) (sym (c .before .before .order .ensures))
+      (entered-sound _ _ (c .before .before .before .before .before .loop .inv .0)),
+  c .next .ensures,
+)
+
+returns : tie.Need-returns Inv-loop μ-loop
+returns c = c .before .loop .inv .0
+
+pub filled-spec : {M : Type 1} → statement M
+filled-spec =
+    tie.close
+    (tie.spec
+    Inv-loop
+    μ-loop
+    started-requires
+    loop-holds
+    chosen-requires
+    order-requires
+    next-requires
+    add-i
+    loop-less
+    loop-again
+    returns)

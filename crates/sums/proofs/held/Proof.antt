@@ -1,0 +1,24 @@
+use mathlib.Core.Path.{sym, subst}
+use borrow.Author.Needs.{needs}
+use Rattle.session.specs.Auctions.{AuctionLeaves}
+use Rattle.session.specs.Sound.{Sound}
+use Rattle.session.specs.SoundAfter.{auctioned-sound}
+use Rattle.sums.proofs.held.Statement.{statement}
+use Rattle.sums.proofs.held.Tie as tie
+
+auction-requires : tie.Need-auction-requires
+auction-requires c κs = search needs
+
+put-answer-requires : tie.Need-put-answer-requires
+put-answer-requires c κs = search needs
+
+same-length : tie.Need-same-length
+same-length c = search needs
+
+returns : tie.Need-returns
+returns c =
+    subst (λ (r : AuctionLeaves). Sound (r .returned .session)) (sym (c .before .before .before .before .auction .ensures))
+    (auctioned-sound _ _ _ (c .before .before .before .before .before .before .before .pre))
+
+pub held-spec : {M : Type 1} → statement M
+held-spec = tie.close (tie.spec auction-requires put-answer-requires same-length returns)
