@@ -1,4 +1,7 @@
 -- The printed lines: 01 "Session file".
 pub mod Text
+pub mod Put
+pub mod Decimal
 pub mod Line
+pub mod Lengths
 pub mod Examples

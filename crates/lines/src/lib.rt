@@ -1,6 +1,14 @@
 // The text of an answer, as the session program prints it (01 "Session file").
-// Its definitions are in specs/; the writer comes later.
+// Its definitions are in specs/.
 use session::AuctionAnswer;
+
+mod line;
+mod text;
+
+pub use line::end_line;
+pub use line::fault_line;
+pub use line::line_of;
+pub use line::trade_line;
 
 // What a record of a file was answered.
 pub enum Answer {

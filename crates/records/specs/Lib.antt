@@ -1,4 +1,8 @@
 -- The session file: fields, records and the walk.
 pub mod Fields
+pub mod Numbers
 pub mod Walk
+pub mod Reads
+pub mod Ends
+pub mod Pieces
 pub mod Examples

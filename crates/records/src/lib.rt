@@ -1,7 +1,14 @@
 // The session file: its records and what stands at a place of it (01 "Session file").
-// Its definitions are in specs/; the reader comes later.
+mod fields;
+mod reader;
+mod walk;
+
+pub use fields::Kind;
+pub use reader::Reader;
 use terms::Entry;
 use terms::Parameters;
+pub use walk::needs_more;
+pub use walk::record_at;
 
 // A record with whatever values its fields hold.
 pub enum Record {

@@ -1,0 +1,167 @@
+-- A number in decimal, counted and written from its last digit to its first.
+use Prim.Native.Nat.{ℕ, zero, suc, _+_, _-_, _*_, _^_, _/_, _%_, _≤_, _<_}
+use mathlib.Core.Bool.{Bool, true, false}
+use mathlib.Core.Path.{_≡_, refl, sym, ap, _∙_}
+use mathlib.Core.List.{List, [], _∷_, _++_, append-assoc, append-nil}
+use native.Mathlib.Nat.{pow-suc}
+use native.Mathlib.Omega.{arith}
+use borrow.Author.Tests.{lt-ltb, le-ltb, ltb-true, ltb-false}
+use lib.Dec.{ltb}
+use lib.ListN.{length, set, take, drop, length-append, length-set}
+use lib.Seq.{drop-length, drop-at}
+use Rattle.lines.specs.Text.{digit, digits, decimal}
+use Rattle.lines.specs.Put.{put, put-nothing, put-before}
+
+-- the last n digits of a number, zeros in front where it has fewer
+unfoldable pub tens : ℕ → ℕ → List ℕ
+tens zero x = []
+tens (suc n) x = tens n (x / 10) ++ (digit (x % 10) ∷ [])
+
+tens-length : (n x : ℕ) → length (tens n x) ≡ n
+unfolding tens
+tens-length zero x = refl
+tens-length (suc n) x = omega (arith, length-append (tens n (x / 10)) (digit (x % 10) ∷ []), tens-length n (x / 10))
+
+digits-small : (n x : ℕ) → x < 10 → digits (suc n) x ≡ digit x ∷ []
+unfolding digits
+digits-small n x h = rw (lt-ltb x 10 h)
+
+digits-large : (n x : ℕ) → 10 ≤ x → digits (suc n) x ≡ digits n (x / 10) ++ (digit (x % 10) ∷ [])
+unfolding digits
+digits-large n x h = rw (le-ltb x 10 h)
+
+digits-none : (x : ℕ) → digits 0 x ≡ []
+unfolding digits
+digits-none x = refl
+
+tens-none : (x : ℕ) → tens 0 x ≡ []
+unfolding tens
+tens-none x = refl
+
+tens-suc : (n x : ℕ) → tens (suc n) x ≡ tens n (x / 10) ++ (digit (x % 10) ∷ [])
+unfolding tens
+tens-suc n x = refl
+
+-- each digit that a number has is one of its last digits
+digits-tens : (n x : ℕ) → digits n x ≡ tens (length (digits n x)) x
+digits-tens zero x = rw (digits-none x) (sym (tens-none x))
+digits-tens (suc n) x = go (ltb x 10) refl (digits-tens n (x / 10))
+  where
+    one : x < 10 → digit x ∷ [] ≡ tens 1 x
+    one h =
+        let e : x % 10 ≡ x = omega (arith, h) in
+        rw (tens-suc 0 x, tens-none (x / 10), e)
+
+    more : (l : List ℕ) → tens (length (l ++ (digit (x % 10) ∷ []))) x ≡ tens (length l) (x / 10) ++ (digit (x % 10) ∷ [])
+    more l =
+        let e : length (l ++ (digit (x % 10) ∷ [])) ≡ suc (length l) = omega (arith, length-append l (digit (x % 10) ∷ [])) in
+        ap (λ (k : ℕ). tens k x) e ∙ tens-suc (length l) x
+
+    go : (b : Bool) → ltb x 10 ≡ b → digits n (x / 10) ≡ tens (length (digits n (x / 10))) (x / 10) → digits (suc n) x ≡ tens (length (digits (suc n) x)) x
+    go true e r = rw (digits-small n x (ltb-true x 10 e)) (one (ltb-true x 10 e))
+    go false e r =
+        rw (digits-large n x (ltb-false x 10 e))
+        (ap (λ (l : List ℕ). l ++ (digit (x % 10) ∷ [])) r ∙ sym (more (digits n (x / 10))))
+
+digits-length : (n x : ℕ) → length (digits n x) ≤ n
+digits-length zero x = rw (digits-none x) (omega arith)
+digits-length (suc n) x = go (ltb x 10) refl (digits-length n (x / 10))
+  where
+    go : (b : Bool) → ltb x 10 ≡ b → length (digits n (x / 10)) ≤ n → length (digits (suc n) x) ≤ suc n
+    go true e r = rw (digits-small n x (ltb-true x 10 e)) (omega arith)
+    go false e r = rw (digits-large n x (ltb-false x 10 e)) (omega (arith, r, length-append (digits n (x / 10)) (digit (x % 10) ∷ [])))
+
+pub decimal-length : (x : ℕ) → length (decimal x) ≤ 20
+decimal-length x = digits-length 20 x
+
+-- a number below a power of ten has as many digits at most
+digits-below : (f n x : ℕ) → x < 10 ^ suc n → length (digits f x) ≤ suc n
+digits-below zero n x h = rw (digits-none x) (omega arith)
+digits-below (suc f) n x h = go (ltb x 10) refl n h (λ m. digits-below f m (x / 10))
+  where
+    less : (p : ℕ) → x < p * 10 → x / 10 < p
+    less p b = omega (arith, b)
+
+    go : (b : Bool) → ltb x 10 ≡ b → (k : ℕ) → x < 10 ^ suc k → ((m : ℕ) → x / 10 < 10 ^ suc m → length (digits f (x / 10)) ≤ suc m) → length (digits (suc f) x) ≤ suc k
+    go true e k b r = rw (digits-small f x (ltb-true x 10 e)) (omega arith)
+    go false e zero b r = absurd (omega (arith, b, ltb-false x 10 e))
+    go false e (suc m) b r =
+        rw (digits-large f x (ltb-false x 10 e))
+        (omega (arith, r m (less (10 ^ suc m) (rw (pow-suc 10 (suc m)) at b)), length-append (digits f (x / 10)) (digit (x % 10) ∷ [])))
+
+pub decimal-below : (n x : ℕ) → x < 10 ^ suc n → length (decimal x) ≤ suc n
+decimal-below n x h = digits-below 20 n x h
+
+-- after n - 1 divisions by ten, each of which takes a digit off
+abbrev pub Counted : ℕ → ℕ → ℕ → Type 0
+Counted x n rest = (n ≤ 20) × (rest < 10 ^ (21 - n)) × (length (digits (21 - n) rest) + n ≡ length (decimal x) + 1)
+
+pub counted-start : (x : ℕ) → x < 18_446_744_073_709_551_616 → Counted x 1 x
+counted-start x h = (omega arith, omega (arith, h), refl)
+
+pub counted-step : (x n rest : ℕ) → Counted x n rest → 10 ≤ rest → Counted x (n + 1) (rest / 10)
+counted-step x n rest s h = go (21 - n) refl (s .1) (s .2)
+  where
+    go : (f : ℕ) → 21 - n ≡ f → rest < 10 ^ f → length (digits f rest) + n ≡ length (decimal x) + 1 → Counted x (n + 1) (rest / 10)
+    go zero e b l = absurd (omega (arith, e, s .0))
+    go (suc zero) e b l = absurd (omega (arith, b, h))
+    go (suc (suc f)) e b l =
+        let k : 21 - (n + 1) ≡ suc f = omega (arith, e) in (
+          omega (arith, e),
+          rw k (less (10 ^ suc f) (rw (pow-suc 10 (suc f)) at b)),
+          rw k (omega (arith, length-append (digits (suc f) (rest / 10)) (digit (rest % 10) ∷ []), rw (digits-large (suc f) rest h) at l)),
+        )
+      where
+        less : (p : ℕ) → rest < p * 10 → rest / 10 < p
+        less p b = omega (arith, b)
+
+pub counted-end : (x n rest : ℕ) → Counted x n rest → rest < 10 → n ≡ length (decimal x)
+counted-end x n rest s h =
+    let e : 21 - n ≡ suc (20 - n) = omega (arith, s .0) in
+    let l : length (digits (21 - n) rest) ≡ 1 = rw (e, digits-small (20 - n) rest h) in
+    omega (arith, l, s .2)
+
+-- the first i digits are still to come: they are the last i of what is left of the number
+abbrev pub Shown : ℕ → ℕ → List ℕ → List ℕ → ℕ → ℕ → Type 0
+Shown x at old out i rest =
+    (i ≤ length (decimal x)) × (length out ≡ length old) × (out ≡ put old (at + i) (drop i (decimal x))) × (tens i rest ++ drop i (decimal x) ≡ decimal x)
+
+pub shown-start : (x at n : ℕ) (old : List ℕ) → at + 20 ≤ length old → n ≡ length (decimal x) → Shown x at old old n x
+shown-start x at n old room e = rw e (
+  omega arith,
+  refl,
+  rw (drop-length (decimal x)) (put-nothing old (at + length (decimal x)) (omega (arith, room, decimal-length x))),
+  rw (drop-length (decimal x)) (append-nil (tens (length (decimal x)) x) ∙ sym (digits-tens 20 x)),
+)
+
+pub shown-step : (x at i j rest : ℕ) (old out : List ℕ) → at + 20 ≤ length old → i ≡ j + 1 → Shown x at old out i rest → Shown x at old (set out (at + j) (48 + rest % 10)) j (rest / 10)
+shown-step x at i j rest old out room e s = (
+  omega (arith, e, s .0),
+  length-set out (at + j) (48 + rest % 10) ∙ s .1,
+  rw (s .2, next, place) (put-before old (at + j) (digit (rest % 10)) (drop i (decimal x)) (omega (arith, room, e, s .0, decimal-length x))),
+  rw next whole,
+)
+  where
+    place : at + i ≡ at + j + 1
+    place = omega (arith, e)
+
+    split : tens i rest ≡ tens j (rest / 10) ++ (digit (rest % 10) ∷ [])
+    split =
+        let k : i ≡ suc j = omega (arith, e) in
+        ap (λ (n : ℕ). tens n rest) k ∙ tens-suc j rest
+
+    whole : tens j (rest / 10) ++ (digit (rest % 10) ∷ drop i (decimal x)) ≡ decimal x
+    whole =
+        sym (append-assoc (tens j (rest / 10)) (digit (rest % 10) ∷ []) (drop i (decimal x)))
+        ∙ ap (λ (l : List ℕ). l ++ drop i (decimal x)) (sym split)
+        ∙ s .3
+
+    next : drop j (decimal x) ≡ digit (rest % 10) ∷ drop i (decimal x)
+    next =
+        ap (λ (l : List ℕ). drop j l) (sym whole)
+        ∙ drop-at (tens j (rest / 10)) (digit (rest % 10) ∷ drop i (decimal x)) j (tens-length j (rest / 10))
+
+pub shown-end : (x at i rest : ℕ) (old out : List ℕ) → i ≡ 0 → Shown x at old out i rest → out ≡ put old at (decimal x)
+shown-end x at i rest old out e s =
+    let p : at + 0 ≡ at = omega arith in
+    s .2 ∙ rw (e, p)

@@ -1,0 +1,44 @@
+use borrow.Author.Needs.{needs}
+use Rattle.records.proofs.fields.order_fields.Statement.{statement}
+use Rattle.records.proofs.fields.order_fields.Tie as tie
+
+two-requires : tie.Need-two-requires
+two-requires c κs = search needs
+
+byte-requires : tie.Need-byte-requires
+byte-requires c κs = search needs
+
+byte-requires-2 : tie.Need-byte-requires-2
+byte-requires-2 c κs = search needs
+
+four-requires : tie.Need-four-requires
+four-requires c κs = search needs
+
+four-requires-2 : tie.Need-four-requires-2
+four-requires-2 c κs = search needs
+
+from-requires : tie.Need-from-requires
+from-requires c κs = search needs
+
+returns : tie.Need-returns
+returns c =
+    rw (
+      c .before .before .before .before .before .two .ensures,
+      c .before .before .before .before .byte .ensures,
+      c .before .before .before .byte2 .ensures,
+      c .before .before .four .ensures,
+      c .from .ensures,
+      c .before .four2 .ensures,
+    )
+
+pub order-fields-spec : {M : Type 1} → statement M
+order-fields-spec =
+    tie.close
+    (tie.spec
+    two-requires
+    byte-requires
+    byte-requires-2
+    four-requires
+    four-requires-2
+    from-requires
+    returns)

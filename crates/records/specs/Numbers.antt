@@ -1,0 +1,27 @@
+-- Numbers of 2, 4 and 8 bytes, each from its two halves, and a byte.
+use Prim.Native.Nat.{ℕ, suc, _+_, _*_, _≤_}
+use mathlib.Core.Path.{_≡_, sym, _∙_}
+use mathlib.Core.List.{List}
+use lib.ListN.{length, getD, List·getD-eq-default}
+use native.Mathlib.Omega.{arith}
+use Rattle.records.specs.Fields.{number}
+
+pub number-one : (bytes : List ℕ) (place : ℕ) → getD bytes place 0 ≡ number bytes place 1
+unfolding number
+number-one bytes place = omega arith
+
+-- behind the end there are zeros
+pub number-past : (bytes : List ℕ) (place : ℕ) → length bytes ≤ place → 0 ≡ number bytes place 1
+number-past bytes place h = sym (List·getD-eq-default bytes 0 h) ∙ number-one bytes place
+
+pub number-two : (bytes : List ℕ) (place : ℕ) → number bytes place 1 + 256 * number bytes (place + 1) 1 ≡ number bytes place 2
+unfolding number
+number-two bytes place = let e : place + 1 ≡ suc place = omega arith in rw e (omega arith)
+
+pub number-four : (bytes : List ℕ) (place : ℕ) → number bytes place 2 + 65_536 * number bytes (place + 2) 2 ≡ number bytes place 4
+unfolding number
+number-four bytes place = let e : place + 2 ≡ suc (suc place) = omega arith in rw e (omega arith)
+
+pub number-eight : (bytes : List ℕ) (place : ℕ) → number bytes place 4 + 4_294_967_296 * number bytes (place + 4) 4 ≡ number bytes place 8
+unfolding number
+number-eight bytes place = let e : place + 4 ≡ suc (suc (suc (suc place))) = omega arith in rw e (omega arith)

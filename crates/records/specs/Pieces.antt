@@ -1,0 +1,127 @@
+-- A file that comes in pieces: what is read of its front part is read of the whole.
+use Prim.Native.Nat.{ℕ, zero, suc, _+_, _-_, _≤_, _<_}
+use mathlib.Core.Bool.{Bool, true, false, _||_, _&&_, true≢false}
+use mathlib.Core.Path.{_≡_, refl, sym, _∙_, ap}
+use mathlib.Core.List.{List, _++_}
+use lib.Dec.{leb, ltb}
+use lib.ListN.{length, getD, take, drop, length-append, length-drop, List·getD-append}
+use lib.Seq.{take-append-le, drop-append-le, getD-drop, drop-drop}
+use native.Mathlib.Omega.{arith}
+use borrow.Author.Tests.{le-ltb, lt-ltb, ltb-true, ltb-false, leb-true, leb-false}
+use Rattle.records.specs.declared.{Record.Record, Read.Read}
+use Rattle.records.specs.Fields.{number, headerLength}
+use Rattle.records.specs.Walk.{lengthAt, partAt, isFaulty, recordAt}
+use Rattle.records.specs.Reads.{isHeader, isCut, faulty-whole, read-end, read-fault, read-record, good-record}
+
+-- the header isn't whole yet, or it is good and its record isn't
+abbrev pub needsMore : List ℕ → ℕ → Bool
+needsMore bytes place = ltb (length bytes) (place + headerLength) || isHeader bytes place && isCut bytes place
+
+number-front : (n : ℕ) (bytes more : List ℕ) (place : ℕ) → place + n ≤ length bytes → number (bytes ++ more) place n ≡ number bytes place n
+unfolding number
+number-front zero bytes more place h = refl
+number-front (suc n) bytes more place h = rw (List·getD-append bytes more 0 place (omega arith), number-front n bytes more (suc place) (omega arith))
+
+header-front : (bytes more : List ℕ) (place : ℕ) → place + headerLength ≤ length bytes → isHeader (bytes ++ more) place ≡ isHeader bytes place
+header-front bytes more place h = rw (number-front 2 bytes more place (omega arith), number-front 2 bytes more (place + 2) (omega arith))
+
+part-front : (bytes more : List ℕ) (place : ℕ) → headerLength < lengthAt bytes place → place + lengthAt bytes place ≤ length bytes
+    → partAt (bytes ++ more) place ≡ partAt bytes place
+part-front bytes more place h k =
+    rw (number-front 2 bytes more place (omega arith), drop-append-le (place + headerLength) bytes more (omega arith))
+    (take-append-le (lengthAt bytes place - headerLength) (drop (place + headerLength) bytes) more (rw (length-drop (place + headerLength) bytes) (omega arith)))
+
+cut-front : (bytes more : List ℕ) (place : ℕ) → headerLength < lengthAt bytes place → place + lengthAt bytes place ≤ length bytes
+    → isCut (bytes ++ more) place ≡ false
+cut-front bytes more place h k =
+    le-ltb (length (bytes ++ more)) (place + lengthAt (bytes ++ more) place) (rw (length-append bytes more, number-front 2 bytes more place (omega arith)) (omega arith))
+
+neither : (a b : Bool) → a || b ≡ false → (a ≡ false) × (b ≡ false)
+neither true b h = absurd (true≢false h)
+neither false b h = (refl, h)
+
+-- more bytes don't change what is whole, or faulty already
+pub settled-read : (bytes : List ℕ) (place : ℕ) → needsMore bytes place ≡ false → (more : List ℕ) → recordAt (bytes ++ more) place ≡ recordAt bytes place
+settled-read bytes place h more = go (isHeader bytes place) (isCut bytes place) refl refl (n .1) where
+  n : (ltb (length bytes) (place + headerLength) ≡ false) × (isHeader bytes place && isCut bytes place ≡ false)
+  n = neither (ltb (length bytes) (place + headerLength)) (isHeader bytes place && isCut bytes place) h
+
+  whole : place + headerLength ≤ length bytes
+  whole = ltb-false (length bytes) (place + headerLength) (n .0)
+
+  whole′ : place + headerLength ≤ length (bytes ++ more)
+  whole′ = rw (length-append bytes more) (omega (arith, whole))
+
+  go : (a b : Bool) → isHeader bytes place ≡ a → isCut bytes place ≡ b → a && b ≡ false → recordAt (bytes ++ more) place ≡ recordAt bytes place
+  go true true p q e = absurd (true≢false e)
+  go false b p q e =
+      read-fault (bytes ++ more) place (omega (arith, whole′)) (sym (faulty-whole (bytes ++ more) place whole′) ∙ rw (header-front bytes more place whole, p)) ∙
+      sym (read-fault bytes place (omega (arith, whole)) (sym (faulty-whole bytes place whole) ∙ rw (p)))
+  go true false p q e =
+      let f : isFaulty bytes place ≡ false = sym (faulty-whole bytes place whole) ∙ rw (p, q) in
+      let g = good-record bytes place f in
+      let f′ : isFaulty (bytes ++ more) place ≡ false = sym (faulty-whole (bytes ++ more) place whole′) ∙
+      rw (header-front bytes more place whole, p, cut-front bytes more place (g .0) (g .1)) in
+      read-record (bytes ++ more) place (omega (arith, whole′)) f′ ∙
+      rw (part-front bytes more place (g .0) (g .1), number-front 2 bytes more place (omega (arith, whole)), number-front 2 bytes more (place + 2) (omega (arith, whole)))
+      (sym (read-record bytes place (omega (arith, whole)) f))
+
+-- a read with its place counted from k bytes before
+abbrev pub movedBy : ℕ → Read → Read
+movedBy k (Read.Record r next) = Read.Record r (k + next)
+movedBy k Read.Fault = Read.Fault
+movedBy k Read.End = Read.End
+
+number-moved : (n k : ℕ) (bytes : List ℕ) (place : ℕ) → number (drop k bytes) place n ≡ number bytes (k + place) n
+unfolding number
+number-moved zero k bytes place = refl
+number-moved (suc n) k bytes place =
+    let e : k + suc place ≡ suc (k + place) = omega arith in
+    rw (getD-drop k bytes place 0, number-moved n k bytes (suc place), e)
+
+further : (k place n : ℕ) → k + (place + n) ≡ k + place + n
+further k place n = omega arith
+
+test-moved : (k l x : ℕ) → k ≤ l → ltb (l - k) x ≡ ltb l (k + x)
+test-moved k l x h = go (ltb l (k + x)) refl where
+  go : (b : Bool) → ltb l (k + x) ≡ b → ltb (l - k) x ≡ b
+  go true e = let t = ltb-true l (k + x) e in lt-ltb (l - k) x (omega (arith, t))
+  go false e = let t = ltb-false l (k + x) e in le-ltb (l - k) x (omega (arith, t))
+
+faulty-moved : (k : ℕ) (bytes : List ℕ) (place : ℕ) → k ≤ length bytes → isFaulty (drop k bytes) place ≡ isFaulty bytes (k + place)
+faulty-moved k bytes place h =
+    rw (
+      length-drop k bytes,
+      number-moved 2 k bytes place,
+      number-moved 2 k bytes (place + 2),
+      test-moved k (length bytes) (place + headerLength) h,
+      test-moved k (length bytes) (place + lengthAt bytes (k + place)) h,
+      further k place 2,
+      further k place headerLength,
+      further k place (lengthAt bytes (k + place)),
+    )
+
+part-moved : (k : ℕ) (bytes : List ℕ) (place : ℕ) → partAt (drop k bytes) place ≡ partAt bytes (k + place)
+part-moved k bytes place = rw (number-moved 2 k bytes place, drop-drop (place + headerLength) k bytes, further k place headerLength)
+
+-- what is read behind the first k bytes is what is read of them all, k places on
+pub moved-read : (k : ℕ) (bytes : List ℕ) (place : ℕ) → recordAt bytes (k + place) ≡ movedBy k (recordAt (drop k bytes) place)
+moved-read k bytes place = go (leb (length (drop k bytes)) place) (isFaulty (drop k bytes) place) refl refl where
+  inside : leb (length (drop k bytes)) place ≡ false → (place < length (drop k bytes)) × (k + place < length bytes)
+  inside e =
+      let t = leb-false (length (drop k bytes)) place e in
+      (t, omega (arith, t, length-drop k bytes))
+
+  go : (a b : Bool) → leb (length (drop k bytes)) place ≡ a → isFaulty (drop k bytes) place ≡ b → recordAt bytes (k + place) ≡ movedBy k (recordAt (drop k bytes) place)
+  go true b p q =
+      let t = leb-true (length (drop k bytes)) place p in
+      read-end bytes (k + place) (omega (arith, t, length-drop k bytes)) ∙ sym (ap (movedBy k) (read-end (drop k bytes) place t))
+  go false true p q =
+      let t = inside p in
+      read-fault bytes (k + place) (t .1) (sym (faulty-moved k bytes place (omega (arith, t))) ∙ q) ∙ sym (ap (movedBy k) (read-fault (drop k bytes) place (t .0) q))
+  go false false p q =
+      let t = inside p in
+      read-record bytes (k + place) (t .1) (sym (faulty-moved k bytes place (omega (arith, t))) ∙ q) ∙
+      sym
+      (ap (movedBy k) (read-record (drop k bytes) place (t .0) q) ∙
+      rw (part-moved k bytes place, number-moved 2 k bytes place, number-moved 2 k bytes (place + 2), further k place 2, further k place (lengthAt bytes (k + place))))
