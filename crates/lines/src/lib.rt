@@ -1,5 +1,4 @@
 // The text of an answer, as the session program prints it (01 "Session file").
-// Its definitions are in specs/.
 use session::AuctionAnswer;
 
 mod line;
