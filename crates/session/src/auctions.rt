@@ -88,7 +88,7 @@ pub fn answer_with(outcome: Outcome, count: u32) -> AuctionAnswer
 
 impl Session {
     // The outcome at this moment; the ranks of both sides go to the two lists.
-    pub fn outlook(self, auction: Auction, buys: &mut [u64], sells: &mut [u64]) -> Outlook
+    pub(crate) fn outlook(self, auction: Auction, buys: &mut [u64], sells: &mut [u64]) -> Outlook
         requires { ⌜ Sound self × T (hasStarted (self .phase)) × (512 ≤ length (now buys)) × (512 ≤ length (now sells)) ⌝ }
         ensures { λ r. ⌜ (r .outcome ≡ outcomeOf self auction) × (r .bids ≤ 512) × (take (r .bids) (now (buys .exit)) ≡ ranksOn (self .book) auction Buy) × (r .asks ≤ 512) × (take (r .asks) (now (sells .exit)) ≡ ranksOn (self .book) auction Sell) ⌝ }
     {
@@ -169,7 +169,7 @@ impl Session {
     }
 
     // What an auction with this outcome leaves; buys and sells are the ranks of both sides.
-    pub fn carried_out<'a>(
+    pub(crate) fn carried_out<'a>(
         self,
         auction: Auction,
         outcome: Outcome,
@@ -213,7 +213,7 @@ impl Session {
     }
 
     // The four numbers that the auction would answer at this moment.
-    pub fn foreseen(self, auction: Auction) -> AuctionAnswer
+    pub(crate) fn foreseen(self, auction: Auction) -> AuctionAnswer
         requires { ⌜ Sound self × T (hasStarted (self .phase)) ⌝ }
         ensures { λ r. ⌜ r ≡ answerOf (outcomeOf self auction) (part self auction) ⌝ }
     {

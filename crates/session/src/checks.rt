@@ -103,7 +103,7 @@ fn first_of(hit: bool, number: u8, later: u8) -> u8
 
 impl Session {
     // Which refusal an order gets, 0 for none: the checks from the last to the first, each in front of those after it.
-    pub fn order_refusal(self, e: Entry) -> u8
+    pub(crate) fn order_refusal(self, e: Entry) -> u8
         ensures { λ r. ⌜ r ≡ firstHit (orderChecks self e) ⌝ }
     {
         let p = self.parameters;
