@@ -4,6 +4,7 @@ mod columns;
 mod places;
 
 pub use columns::place_of;
+pub use places::WORD_PLACES;
 pub use places::bit_of;
 pub use places::count_taken;
 pub use places::lowest_free;
