@@ -1,12 +1,11 @@
 -- Pairing over shares: the same trades as `paired`, from the columns that the code has.
-use Prim.Native.Nat.{ℕ, zero, suc, _+_, _-_, _<_, min}
+use Prim.Native.Nat.{ℕ, zero, suc, _+_, _-_, min}
 use mathlib.Core.Bool.{Bool, true, false, cond}
 use mathlib.Core.Path.{_≡_, refl, ap}
 use mathlib.Core.List.{List, [], _∷_, _++_, map}
-use native.Mathlib.Omega.{arith}
 use lib.Dec.{eqb, leb}
 use lib.ListN.{length, getD}
-use Rattle.queue.specs.Ranks.{placeOfRank, along}
+use Rattle.queue.specs.Ranks.{along}
 use Rattle.queue.specs.Fill.{Fill}
 use Rattle.auction.specs.declared.{Trade.Trade, pairing.Front.Front}
 use Rattle.auction.specs.Pairing.{rest, served, pairs, paired}
@@ -36,15 +35,6 @@ sharePairs (suc k) (b ∷ bn) (x ∷ bq) (s ∷ sn) (y ∷ sq) =
 -- all of them: there are fewer trades than shares; numbers are looked up by ranks
 abbrev pub pairedShares : List ℕ → List ℕ → List ℕ → List ℕ → List ℕ → List Trade
 pairedShares numbers buys bought sells sold = sharePairs (length bought + length sold) (along numbers buys) bought (along numbers sells) sold
-
-pub numbers-length : (numbers ranks : List ℕ) → length (along numbers ranks) ≡ length ranks
-numbers-length numbers [] = refl
-numbers-length numbers (r ∷ ranks) = ap suc (numbers-length numbers ranks)
-
-pub number-at : (numbers ranks : List ℕ) (i : ℕ) → i < length ranks → getD (along numbers ranks) i 0 ≡ getD numbers (placeOfRank (getD ranks i 0)) 0
-number-at numbers [] i h = absurd (omega arith)
-number-at numbers (r ∷ ranks) zero h = refl
-number-at numbers (r ∷ ranks) (suc i) h = number-at numbers ranks i (omega arith)
 
 -- no trades where a queue has no shares
 pub no-bought : (k : ℕ) (bn sn sq : List ℕ) → sharePairs k bn [] sn sq ≡ []

@@ -1,7 +1,9 @@
 -- The number at the rank's place.
 use mathlib.Core.Path.{sym}
 use borrow.Author.Needs.{needs}
-use Rattle.auction.specs.Fronts.{number-at}
+use lib.ListN.{getD}
+use Rattle.queue.specs.Ranks.{placeOfRank}
+use Rattle.queue.specs.Over.{getD-map}
 use Rattle.auction.proofs.pairing.number_at.Statement.{statement}
 use Rattle.auction.proofs.pairing.number_at.Tie as tie
 
@@ -21,7 +23,7 @@ element-copy-out-result : tie.Need-element-copy-out-result
 element-copy-out-result c = search needs
 
 returns : tie.Need-returns
-returns c = let a = c .before .before .before .before in rw (c .before .place-of-rank .ensures .0) (sym (number-at (a .args .numbers .now) (a .args .ranks .now) (a .args .i) (a .pre)))
+returns c = let a = c .before .before .before .before in rw (c .before .place-of-rank .ensures .0) (sym (getD-map (λ r. getD (a .args .numbers .now) (placeOfRank r) 0) (a .args .ranks .now) (a .args .i) (a .pre)))
 
 pub number-at-spec : {M : Type 1} → statement M
 number-at-spec =

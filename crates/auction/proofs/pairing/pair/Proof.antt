@@ -5,9 +5,8 @@ use mathlib.Core.Path.{_≡_, sym, _∙_}
 use native.Mathlib.Omega.{arith}
 use borrow.Author.Needs.{needs}
 use lib.Dec.{ltb}
-use lib.ListN.{length}
-use Rattle.queue.specs.Ranks.{along}
-use Rattle.auction.specs.Fronts.{numbers-length}
+use lib.ListN.{length, getD, length-map}
+use Rattle.queue.specs.Ranks.{placeOfRank, along}
 use Rattle.auction.specs.Turns.{State, state-start, state-end, state-on, state-step}
 use Rattle.auction.proofs.pairing.pair.Statement.{statement}
 use Rattle.auction.proofs.pairing.pair.Tie as tie
@@ -71,7 +70,7 @@ loop-again c =
     let l = c .before .before .before .before .before .before .before .before .before .before .before in
     let a = start l in
     state-step _ _ _ _ _ _ _ _ _ _ (l .loop .inv) (goes t)
-    (omega (arith, numbers-length (a .args .numbers .now) (a .args .buys .now), a .pre .0)) (omega (arith, numbers-length (a .args .numbers .now) (a .args .sells .now), a .pre .1))
+    (omega (arith, length-map (a .args .buys .now) (λ r. getD (a .args .numbers .now) (placeOfRank r) 0), a .pre .0)) (omega (arith, length-map (a .args .sells .now) (λ r. getD (a .args .numbers .now) (placeOfRank r) 0), a .pre .1))
     _ _ _ _ _ _ (c .before .before .before .before .before .before .before .number-at .ensures) (c .before .before .before .before .before .before .number-at2 .ensures) (c .before .before .before .before .before .before .before .before .least .ensures) (c .before .advanced .ensures) (c .advanced2 .ensures) (c .before .before .before .before .write-trade .ensures) (c .before .before .before .before .write-trade .kept .0)
 
 same-length : tie.Need-same-length Inv-loop μ-loop
