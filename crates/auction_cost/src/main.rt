@@ -6,6 +6,7 @@ use libc::STDOUT_FILENO;
 use session::AuctionAnswer;
 use session::Session;
 use terms::Auction;
+use terms::DelayThreshold;
 use terms::Entry;
 use terms::Limit;
 use terms::Side;
@@ -35,7 +36,7 @@ fn started() -> Session
     ensures { λ r. ⌜ Sound r ⌝ }
 {
     let fresh = Session::fresh();
-    let r = fresh.start(100, REFERENCE, 9, 9_999, 1_000_000_000_000);
+    let r = fresh.start(100, REFERENCE, 9, DelayThreshold::MAX, 1_000_000_000_000);
     let session = r.session;
     session
 }
