@@ -7,7 +7,7 @@ use native.Mathlib.Nat.{pow-suc}
 use native.Mathlib.Omega.{arith}
 use borrow.Author.Tests.{lt-ltb, le-ltb, ltb-true, ltb-false}
 use lib.Dec.{ltb}
-use lib.ListN.{length, set, take, drop, length-append, length-set}
+use lib.ListN.{length, set, drop, length-append, length-set}
 use lib.Seq.{drop-length, drop-at}
 use Rattle.lines.specs.Text.{digit, digits, decimal}
 use Rattle.lines.specs.Put.{put, put-nothing, put-before}
