@@ -1,5 +1,5 @@
 -- The lent list: buy number, sell number, quantity, price for each trade, from the front; the remainder keeps its contents.
-use Prim.Native.Nat.{ℕ, suc, _+_, _*_, _≤_}
+use Prim.Native.Nat.{ℕ, zero, suc, _+_, _*_, _≤_}
 use mathlib.Core.Bool.{cond}
 use mathlib.Core.Path.{_≡_, refl, ap, _∙_}
 use mathlib.Core.List.{List, [], _∷_, _++_}
@@ -17,6 +17,19 @@ quadruples price (t ∷ ts) = t .buy ∷ t .sell ∷ t .quantity ∷ price ∷ q
 
 abbrev pub written : ℕ → List Trade → List ℕ → List ℕ
 written price ts list = quadruples price ts ++ drop (numbersPerTrade * length ts) list
+
+-- the first k trades of a lent list, read back; fewer where the list ends before
+abbrev pub tradesRead : ℕ → List ℕ → List Trade
+tradesRead zero list = []
+tradesRead (suc k) [] = []
+tradesRead (suc k) (b ∷ []) = []
+tradesRead (suc k) (b ∷ s ∷ []) = []
+tradesRead (suc k) (b ∷ s ∷ q ∷ []) = []
+tradesRead (suc k) (b ∷ s ∷ q ∷ p ∷ list) = record { buy = b; sell = s; quantity = q } ∷ tradesRead k list
+
+pub trades-back : (price : ℕ) (ts : List Trade) (list : List ℕ) → tradesRead (length ts) (quadruples price ts ++ list) ≡ ts
+trades-back price [] list = refl
+trades-back price (t ∷ ts) list = ap (λ (us : List Trade). t ∷ us) (trades-back price ts list)
 
 -- the numbers of trade k, where the list has room for them
 abbrev pub wrote : ℕ → List ℕ → List ℕ → List ℕ

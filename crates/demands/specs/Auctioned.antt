@@ -34,22 +34,14 @@ use Rattle.auction.specs.Fills.{fills, tradesOf, trades-none}
 use Rattle.auction.specs.Outcome.{trades, outcomeNumber, priceAnswered, quantityAnswered, takesPlace}
 use Rattle.auction.specs.After.{remaining, ends, leaves, restOf}
 use Rattle.auction.specs.Settled.{rest-keeps}
-use Rattle.auction.specs.Written.{quadruples, quadruples-length}
+use Rattle.auction.specs.Written.{quadruples, quadruples-length, tradesRead, trades-back}
 use Rattle.session.specs.declared.{Session.Session}
 use Rattle.session.specs.Sound.{Sound}
 use Rattle.session.specs.Auctions.{AuctionLeaves, part, outcomeOf, tradesNow, sessionAfter, auctionDone, auctioned}
 use Rattle.demands.specs.Traded.{Ranged, sound-ranged, no-list-moves-more, bought-is-sold, nobody-passed-over, nothing-left-could-trade, list-of-trades}
 use Rattle.demands.specs.Outcomes.{CarriedOut, carried-out}
 
--- the first k quadruples of a lent list, read back: the trades, and the price beside each; fewer where the list ends before
-abbrev pub tradesRead : ℕ → List ℕ → List Trade
-tradesRead zero list = []
-tradesRead (suc k) [] = []
-tradesRead (suc k) (b ∷ []) = []
-tradesRead (suc k) (b ∷ s ∷ []) = []
-tradesRead (suc k) (b ∷ s ∷ q ∷ []) = []
-tradesRead (suc k) (b ∷ s ∷ q ∷ p ∷ list) = record { buy = b; sell = s; quantity = q } ∷ tradesRead k list
-
+-- .. and the price beside each
 abbrev pub pricesRead : ℕ → List ℕ → List ℕ
 pricesRead zero list = []
 pricesRead (suc k) [] = []
@@ -57,10 +49,6 @@ pricesRead (suc k) (b ∷ []) = []
 pricesRead (suc k) (b ∷ s ∷ []) = []
 pricesRead (suc k) (b ∷ s ∷ q ∷ []) = []
 pricesRead (suc k) (b ∷ s ∷ q ∷ p ∷ list) = p ∷ pricesRead k list
-
-trades-back : (price : ℕ) (ts : List Trade) (list : List ℕ) → tradesRead (length ts) (quadruples price ts ++ list) ≡ ts
-trades-back price [] list = refl
-trades-back price (t ∷ ts) list = ap (λ (us : List Trade). t ∷ us) (trades-back price ts list)
 
 prices-back : (price : ℕ) (ts : List Trade) (list : List ℕ)
     → (length (pricesRead (length ts) (quadruples price ts ++ list)) ≡ length ts) × ((p : ℕ) → p ∈ pricesRead (length ts) (quadruples price ts ++ list) → p ≡ price)

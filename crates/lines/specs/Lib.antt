@@ -4,4 +4,5 @@ pub mod Put
 pub mod Decimal
 pub mod Line
 pub mod Lengths
+pub mod Trades
 pub mod Examples

@@ -5,12 +5,16 @@ use crate::text::put_byte;
 use crate::text::put_bytes;
 use crate::text::put_decimal;
 use crate::text::put_number;
+use auction::Trade;
 use session::AuctionAnswer;
 ghost use mathlib.Core.List.{_∷_, [], _++_};
-ghost use Prim.Native.Nat.{_+_, _≤_};
+ghost use Prim.Native.Nat.{_+_, _*_, _≤_};
 ghost use lib.ListN.{length};
+ghost use Rattle.terms.specs.Bounds.{numbersPerTrade};
+ghost use Rattle.auction.specs.Written.{tradesRead};
 ghost use Rattle.lines.specs.Text.{decimal, space, auctionWord};
-ghost use Rattle.lines.specs.Line.{numbers, placed, lineOf, tradeLine, faultLine, endLine};
+ghost use Rattle.lines.specs.Line.{numbers, placed, lineOf, tradeLine, tradeLines, faultLine, endLine};
+ghost use Rattle.lines.specs.Lengths.{tradeRoom};
 ghost use Rattle.lines.specs.Put.{Wrote};
 
 const NEWLINE: u8 = 10;
@@ -112,6 +116,21 @@ pub fn trade_line(out: &mut [u8], at: usize, buy: u32, sell: u32, quantity: u32)
     let p = put_bytes(out, at, b"trade");
     let q = put_number(out, p, buy as u64);
     put_two(out, q, sell as u64, quantity as u64)
+}
+
+// The trades that stand in a lent list, four numbers each.
+pub fn trade_lines(out: &mut [u8], at: usize, list: &[u32], count: usize) -> usize
+    requires { ⌜ (at + tradeRoom * count ≤ length (now out)) × (numbersPerTrade * count ≤ length (now list)) ⌝ }
+    ensures { λ r. ⌜ Wrote (now (out .entry)) (now (out .exit)) at r (tradeLines (tradesRead count (now (list .entry)))) ⌝ }
+{
+    let mut end = at;
+    let mut k: usize = 0;
+    while k < count {
+        let i = k * Trade::NUMBERS;
+        end = trade_line(out, end, list[i], list[i + 1], list[i + 2]);
+        k += 1;
+    }
+    end
 }
 
 // The record at which the walk ended.
