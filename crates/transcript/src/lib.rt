@@ -1,2 +1,37 @@
-// The transcript: what the session program prints for a file (01 "Session file").
-// Its definitions are in specs/; the feeding of bytes comes later.
+// The transcript: a session file's records run one by one, and what is printed of them (01 "Session file").
+mod steps;
+mod tell;
+
+use records::Record;
+use session::Session;
+pub use tell::told;
+pub use tell::transcribed;
+
+// A session after a record whose lines are written, and the place behind them.
+pub struct Stepped {
+    pub session: Session,
+    pub at: usize,
+}
+
+// Why the telling of the bytes at hand stopped: no room for any record's lines, a record that is not whole yet, a fault, or the end.
+pub enum Stop {
+    Full,
+    Waits,
+    Fault,
+    End,
+}
+
+// What is told next: a record and the place behind it, or nothing.
+pub enum Front {
+    Record(Record, usize),
+    Stop(Stop),
+}
+
+// How far the bytes at hand were told: the session, the records answered, the place behind them, and the place behind what was written.
+pub struct Telling {
+    pub session: Session,
+    pub answered: u64,
+    pub place: usize,
+    pub at: usize,
+    pub stop: Stop,
+}

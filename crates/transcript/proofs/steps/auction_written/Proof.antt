@@ -1,0 +1,54 @@
+-- The call, its line, and the lines of the trades that it left in the list.
+use mathlib.Core.Path.{refl}
+use native.Mathlib.Omega.{arith}
+use borrow.Author.Needs.{needs}
+use Rattle.auction.specs.Written.{tradesRead}
+use Rattle.lines.specs.Lengths.{line-length}
+use Rattle.lines.specs.declared.{Answer.Answer}
+use Rattle.transcript.specs.Transcript.{auctionStep}
+use Rattle.transcript.specs.Steps.{wrote-both}
+use Rattle.transcript.specs.Lent.{auction-step, auction-count}
+use Rattle.transcript.proofs.steps.auction_written.Statement.{statement}
+use Rattle.transcript.proofs.steps.auction_written.Tie as tie
+
+auction-requires : tie.Need-auction-requires
+auction-requires c κs = search needs
+
+line-of-requires : tie.Need-line-of-requires
+line-of-requires c κs = search needs
+
+cast-trade-lines : tie.Need-cast-trade-lines
+cast-trade-lines c = search needs
+
+trade-lines-requires : tie.Need-trade-lines-requires
+trade-lines-requires c κs =
+    let s = c .before .before .before .before .before .before .before .before .before .before .before .before .before .before in
+    let r = c .before .before .before .before .before .before .before .before .before .before .auction in
+    let few = auction-count _ _ _ _ (r .result) (r .ensures) in
+    (omega (arith, line-length (s .args .place) (Answer.Auction (r .result .answer) (r .result .result))), omega arith)
+
+same-length : tie.Need-same-length
+same-length c = search needs
+
+same-length-2 : tie.Need-same-length-2
+same-length-2 c = search needs
+
+returns : tie.Need-returns
+returns c =
+    let s = c .before .before .before .before .before .before .before .before .before .before .before .before .before .before .before .before .before .before in
+    let r = c .before .before .before .before .before .before .before .before .before .before .before .before .before .before .auction in
+    let w = c .before .before .before .before .before .before .before .before .before .line-of in
+    wrote-both (s .args .place) _ _ _ _ _ _ (auctionStep (r .result) (tradesRead (r .result .result .count) (r .last .1 .1 .0))) _ (omega (arith, s .pre .2))
+    (auction-step _ _ _ _ (r .result) (s .pre .1) (r .ensures)) refl (w .ensures) (c .before .before .before .trade-lines .ensures)
+
+pub auction-written-spec : {M : Type 1} → statement M
+auction-written-spec =
+    tie.close
+    (tie.spec
+    auction-requires
+    line-of-requires
+    cast-trade-lines
+    trade-lines-requires
+    same-length
+    same-length-2
+    returns)

@@ -1,0 +1,73 @@
+-- What a record does: its trades are few, its lines have room, the session after it is sound; and what its writing promises.
+use Prim.Native.Nat.{ℕ, zero, suc, _+_, _*_, _≤_}
+use mathlib.Core.Path.{_≡_}
+use mathlib.Core.List.{List, [], append-nil}
+use native.Mathlib.Omega.{arith}
+use lib.ListN.{length, length-append}
+use Rattle.terms.specs.Bounds.{places, maxTrades}
+use Rattle.terms.specs.Orders.{auctionOf}
+use Rattle.terms.specs.declared.orders.{Auction.Auction, AuctionMade.AuctionMade}
+use Rattle.book.specs.Resting.{resting}
+use Rattle.book.specs.Rests.{resting-length}
+use Rattle.queue.specs.Part.{takingPart-length}
+use Rattle.auction.specs.declared.{Outcome.Outcome, Outcome.the-variants.Traded, Outcome.the-variants.NoTrade, Outcome.the-variants.NonOpening, Outcome.the-variants.Delayed}
+use Rattle.auction.specs.Fills.{trades-count}
+use Rattle.auction.specs.Outcome.{trades}
+use Rattle.session.specs.declared.{Session.Session}
+use Rattle.session.specs.Sound.{Sound, started-sound, entered-sound, deleted-sound}
+use Rattle.session.specs.SoundAfter.{auctioned-sound}
+use Rattle.session.specs.Auctions.{auctioned, part, outcomeOf, tradesNow}
+use Rattle.records.specs.declared.{Record.Record}
+use Rattle.lines.specs.Line.{lineOf, tradeLines}
+use Rattle.lines.specs.Lengths.{lineRoom, tradeRoom, line-length, trades-room}
+use Rattle.lines.specs.Put.{Wrote, put-then}
+use Rattle.transcript.specs.declared.{Stepped.Stepped}
+use Rattle.transcript.specs.Transcript.{Step, step, stepLines, lent, tradesAnswered}
+
+-- the session after a step, and the lines of the record at its place from 1 written into the buffer
+abbrev pub WroteStep : ℕ → List ℕ → List ℕ → ℕ → Stepped → Step → Type 0
+WroteStep place old new at r done = (r .session ≡ done .session) × Wrote old new at (r .at) (stepLines place done)
+
+-- .. of a record without trades: its answer's line is all
+pub wrote-alone : (place : ℕ) (old new : List ℕ) (at : ℕ) (r : Stepped) (did done : Step) → did ≡ done → did .trades ≡ []
+    → r .session ≡ did .session → Wrote old new at (r .at) (lineOf place (did .answer)) → WroteStep place old new at r done
+wrote-alone place old new at r did done e none next w = rw (← e) (next, rw (none, append-nil (lineOf place (did .answer))) w)
+
+-- .. of one with trades: the line, and theirs behind it
+pub wrote-both : (place : ℕ) (old between new : List ℕ) (at p : ℕ) (r : Stepped) (did done : Step) → at ≤ length old → did ≡ done → r .session ≡ did .session
+    → Wrote old between at p (lineOf place (did .answer)) → Wrote between new p (r .at) (tradeLines (did .trades)) → WroteStep place old new at r done
+wrote-both place old between new at p r did done room e next line lines =
+    rw (← e) (next, put-then old between new at p (r .at) (lineOf place (did .answer)) (tradeLines (did .trades)) room line lines)
+
+-- room that suffices for the lines of one record: its own, and those of 511 trades
+abbrev pub recordRoom : ℕ
+recordRoom = lineRoom + tradeRoom * maxTrades
+
+pub trades-few : (s : Session) (a : Auction) → length (tradesNow s a) ≤ maxTrades
+trades-few s a = go (outcomeOf s a) where
+  go : (o : Outcome) → length (trades o (part s a)) ≤ maxTrades
+  go (Traded price quantity) = omega (arith, trades-count quantity (part s a), takingPart-length a (resting (s .book)), resting-length (s .book) places)
+  go NoTrade = omega arith
+  go NonOpening = omega arith
+  go (Delayed price quantity) = omega arith
+
+step-trades : (s : Session) (r : Record) → length (step s r .trades) ≤ maxTrades
+step-trades s (Record.Start p) = omega arith
+step-trades s (Record.Order e) = omega arith
+step-trades s (Record.Delete d) = omega arith
+step-trades s (Record.Auction which) = go (auctioned s which lent .returned .answer) (auctionOf which) where
+  go : (n : ℕ) (made : AuctionMade) → length (tradesAnswered n made s) ≤ maxTrades
+  go (suc n) made = omega arith
+  go zero AuctionMade.Refused = omega arith
+  go zero (AuctionMade.Good a) = trades-few s a
+
+pub step-room : (place : ℕ) (s : Session) (r : Record) → length (stepLines place (step s r)) ≤ recordRoom
+step-room place s r =
+    let done = step s r in
+    omega (arith, length-append (lineOf place (done .answer)) (tradeLines (done .trades)), line-length place (done .answer), trades-room (done .trades), step-trades s r)
+
+pub step-sound : (s : Session) (r : Record) → Sound s → Sound (step s r .session)
+step-sound s (Record.Start p) h = started-sound s p h
+step-sound s (Record.Order e) h = entered-sound s e h
+step-sound s (Record.Delete d) h = deleted-sound s (d .number) (d .member) h
+step-sound s (Record.Auction which) h = auctioned-sound s which lent h

@@ -1,0 +1,125 @@
+// The telling: the records of the bytes at hand answered one by one, their lines written into a lent buffer.
+use crate::Front;
+use crate::Stop;
+use crate::Telling;
+use crate::steps::written;
+use auction::Trade;
+use lines::LINE_ROOM;
+use lines::TRADE_ROOM;
+use lines::end_line;
+use lines::fault_line;
+use records::Read;
+use records::needs_more;
+use records::record_at;
+use session::Session;
+ghost use mathlib.Core.Path.{_≡_};
+ghost use Prim.Native.Nat.{_+_, _≤_, _<_, _^_};
+ghost use lib.ListN.{length, take};
+ghost use Rattle.terms.specs.Bounds.{tradeListLength};
+ghost use mathlib.Core.Bool.{true};
+ghost use Rattle.session.specs.Entry.{freshSession};
+ghost use Rattle.session.specs.Sound.{Sound};
+ghost use Rattle.lines.specs.Put.{Wrote, put};
+ghost use Rattle.transcript.specs.Told.{front as Told·front, recordsTold, haltOf, lastOf, lastRoom, faults, tellingLeaves, told as Told·told};
+
+const RECORD_ROOM: usize = LINE_ROOM + TRADE_ROOM * Trade::MOST;
+
+fn front(bytes: &[u8], place: usize, ended: bool, room: usize) -> Front
+    requires { ⌜ place ≤ length (now bytes) ⌝ }
+    ensures { λ r. ⌜ r ≡ Told·front (now (bytes .entry)) place ended room ⌝ }
+{
+    if room < RECORD_ROOM {
+        return Front::Stop(Stop::Full);
+    }
+    if !ended & needs_more(bytes, place) {
+        return Front::Stop(Stop::Waits);
+    }
+    let read = record_at(bytes, place);
+    match read {
+        Read::Record(record, next) => Front::Record(record, next),
+        Read::Fault => Front::Stop(Stop::Fault),
+        Read::End => Front::Stop(Stop::End),
+    }
+}
+
+// The records, one by one.
+fn records_told(
+    session: Session,
+    answered: u64,
+    bytes: &[u8],
+    ended: bool,
+    list: &mut [u32],
+    out: &mut [u8],
+) -> Telling
+    requires { ⌜ Sound session × (length (now list) ≡ tradeListLength) × (answered + length (now bytes) < 2 ^ 64) ⌝ }
+    ensures { λ r. ⌜ (haltOf r (now (out .exit)) ≡ recordsTold (length (now (out .entry))) ended (now (bytes .entry)) session answered) × (r .at ≤ length (now (out .entry))) × (now (out .exit) ≡ put (now (out .entry)) 0 (take (r .at) (now (out .exit)))) ⌝ }
+{
+    let mut present = session;
+    let mut count = answered;
+    let mut place: usize = 0;
+    let mut at: usize = 0;
+    loop {
+        let next = front(bytes, place, ended, out.len() - at);
+        match next {
+            Front::Record(record, behind) => {
+                count += 1;
+                let r = written(present, record, list, count, out, at);
+                let later = r.session;
+                present = later;
+                at = r.at;
+                place = behind;
+            }
+            Front::Stop(stop) => {
+                return Telling {
+                    session: present,
+                    answered: count,
+                    place,
+                    at,
+                    stop,
+                };
+            }
+        }
+    }
+}
+
+// The fault, if one ended the walk, and the count of records answered.
+fn last_lines(out: &mut [u8], at: usize, answered: u64, stop: Stop) -> usize
+    requires { ⌜ (at + lastRoom stop ≤ length (now out)) × (answered + faults stop < 2 ^ 64) ⌝ }
+    ensures { λ r. ⌜ Wrote (now (out .entry)) (now (out .exit)) at r (lastOf answered stop) ⌝ }
+{
+    match stop {
+        Stop::Full => at,
+        Stop::Waits => at,
+        Stop::Fault => {
+            let behind = fault_line(out, at, answered + 1);
+            end_line(out, behind, answered)
+        }
+        Stop::End => end_line(out, at, answered),
+    }
+}
+
+// The bytes at hand told from the buffer's front on. `ended` says that no more will come.
+pub fn told(session: Session, answered: u64, bytes: &[u8], ended: bool, out: &mut [u8]) -> Telling
+    requires { ⌜ Sound session × (answered + length (now bytes) < 2 ^ 64) ⌝ }
+    ensures { λ r. ⌜ tellingLeaves r (now (out .exit)) ≡ Told·told session answered (now (bytes .entry)) ended (now (out .entry)) ⌝ }
+{
+    let mut list = [0u32; 2044];
+    let r = records_told(session, answered, bytes, ended, &mut list, out);
+    let stop = r.stop;
+    let later = r.session;
+    let end = last_lines(out, r.at, r.answered, stop);
+    Telling {
+        session: later,
+        answered: r.answered,
+        place: r.place,
+        at: end,
+        stop,
+    }
+}
+
+// A whole file told: what the session program prints for it, as far as there is room.
+pub fn transcribed(file: &[u8], out: &mut [u8]) -> Telling
+    ensures { λ r. ⌜ tellingLeaves r (now (out .exit)) ≡ Told·told freshSession 0 (now (file .entry)) true (now (out .entry)) ⌝ }
+{
+    told(Session::fresh(), 0, file, true, out)
+}
