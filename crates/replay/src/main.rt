@@ -1,0 +1,166 @@
+// The session program: runs a session file from standard input and prints what happened (01 "Session file").
+use libc::STDERR_FILENO;
+use libc::STDIN_FILENO;
+use libc::STDOUT_FILENO;
+use session::Session;
+use transcript::Stop;
+use transcript::told;
+ghost use mathlib.Core.Path.{_≡_};
+ghost use Prim.Native.Nat.{_+_, _-_, _≤_, _<_, _^_};
+ghost use lib.ListN.{length, take, drop};
+ghost use Rattle.replay.specs.Turns.{Within, Going};
+
+// A loop must end and nothing says that an input does: so many turns, of at least one read or one record each, are more than any run takes.
+const MOST_TURNS: u64 = 1_099_511_627_776;
+
+// The bytes of the buffer that are not told yet, and whether more can come.
+pub struct Held {
+    pub from: usize,
+    pub to: usize,
+    pub ended: bool,
+}
+
+// Where a run stands: its session, the records answered, the bytes held, and why the last telling stopped.
+pub struct Run {
+    pub session: Session,
+    pub answered: u64,
+    pub held: Held,
+    pub stop: Stop,
+}
+
+fn waits(stop: Stop) -> bool {
+    match stop {
+        Stop::Waits => true,
+        _ => false,
+    }
+}
+
+fn is_over(stop: Stop) -> bool {
+    match stop {
+        Stop::Fault => true,
+        Stop::End => true,
+        _ => false,
+    }
+}
+
+fn say(line: &[u8]) {
+    io::write_all(STDERR_FILENO, line);
+}
+
+// The bytes from one place to another, moved to the front; how many they are.
+fn moved_to_front(bytes: &mut [u8], from: usize, to: usize) -> usize
+    requires { ⌜ (from ≤ to) × (to ≤ length (now bytes)) ⌝ }
+    ensures { λ r. ⌜ (r ≡ to - from) × (take r (now (bytes .exit)) ≡ drop from (take to (now (bytes .entry)))) ⌝ }
+{
+    let n = to - from;
+    let mut i: usize = 0;
+    while i < n {
+        bytes[i] = bytes[from + i];
+        i += 1;
+    }
+    n
+}
+
+// One read into the buffer; how many bytes came. A read that fails ends the input like its end.
+fn read_some(bytes: &mut [u8]) -> usize
+    ensures { λ r. ⌜ r ≤ length (now (bytes .entry)) ⌝ }
+{
+    let got = libc::read(STDIN_FILENO, bytes);
+    if got < 0 {
+        say(b"replay: standard input can't be read further; it is taken to end here\n");
+    }
+    io::count(got, bytes)
+}
+
+// One read behind the bytes held. They are fewer than a record's, so there is room for it.
+fn read_behind(input: &mut [u8], held: Held) -> Held
+    requires { ⌜ Within (length (now input)) held ⌝ }
+    ensures { λ r. ⌜ Within (length (now (input .entry))) r ⌝ }
+{
+    let kept = moved_to_front(input, held.from, held.to);
+    let got = read_some(&mut input[kept..]);
+    Held {
+        from: 0,
+        to: kept + got,
+        ended: got == 0,
+    }
+}
+
+fn next_held(input: &mut [u8], held: Held, stop: Stop) -> Held
+    requires { ⌜ Within (length (now input)) held ⌝ }
+    ensures { λ r. ⌜ Within (length (now (input .entry))) r ⌝ }
+{
+    if waits(stop) {
+        return read_behind(input, held);
+    }
+    held
+}
+
+// What was told goes to standard output. Where it can't be written, the run is over.
+fn print(text: &[u8], stop: Stop) -> Stop {
+    let is_written = io::write_all(STDOUT_FILENO, text);
+    if !is_written {
+        say(b"replay: standard output can't be written\n");
+        return Stop::End;
+    }
+    stop
+}
+
+// A turn: a read where the last telling waits for one, the bytes held told, and what was told printed.
+fn turned(run: Run, input: &mut [u8], output: &mut [u8]) -> Run
+    requires { ⌜ Going (length (now input)) run × (run .answered + length (now input) < 2 ^ 64) ⌝ }
+    ensures { λ r. ⌜ Going (length (now (input .entry))) r × (r .answered ≤ run .answered + length (now (input .entry))) ⌝ }
+{
+    let before = run.held;
+    let last = run.stop;
+    let held = next_held(input, before, last);
+    let from = held.from;
+    let to = held.to;
+    let session = run.session;
+    let r = told(session, run.answered, &input[from..to], held.ended, output);
+    let end = r.at;
+    let why = r.stop;
+    let stop = print(&output[..end], why);
+    let later = r.session;
+    Run {
+        session: later,
+        answered: r.answered,
+        held: Held {
+            from: from + r.place,
+            to,
+            ended: held.ended,
+        },
+        stop,
+    }
+}
+
+fn first() -> Run
+    ensures { λ r. ⌜ Going 0 r × (r .answered ≡ 0) ⌝ }
+{
+    Run {
+        session: Session::fresh(),
+        answered: 0,
+        held: Held {
+            from: 0,
+            to: 0,
+            ended: false,
+        },
+        stop: Stop::Waits,
+    }
+}
+
+fn main() {
+    let mut input = io::large_buffer();
+    let mut output = io::large_buffer();
+    let mut run = first();
+    let mut turns = MOST_TURNS;
+    while turns > 0 {
+        let next = turned(run, &mut input, &mut output);
+        run = next;
+        let stop = run.stop;
+        if is_over(stop) {
+            return;
+        }
+        turns -= 1;
+    }
+}
