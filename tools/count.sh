@@ -4,17 +4,15 @@
 [ $# -ge 1 ] || { sed -n 2,3p "$0"; exit 2; }
 program=$1
 in=${2:-/dev/null}
-machine=$(uname -m)
 fail() {
     echo "count: $*" >&2
     exit 1
 }
 [ -x "$program" ] || fail "no program $program"
 
-# The kit's tools beside its documents: on Arm an emulator, with the loader and the C library of x86-64.
-tools=$(dirname "$(dirname "$(rt doc)")")/on/$machine/toolchain
-emulator=$tools/bin/qemu-x86_64
-[ -x "$emulator" ] || emulator=$(command -v qemu-x86_64)
+# shellcheck source=tools/x86.sh
+. "$(dirname "$0")/x86.sh"
+# Not by x86, whose emulator is told to copy otherwise than the machine would.
 if [ "$machine" = x86_64 ]; then
     set -- "$program"
 else

@@ -5,7 +5,6 @@
 program=$1
 function=$2
 in=${3:-/dev/null}
-machine=$(uname -m)
 fail() {
     echo "stack: $*" >&2
     exit 1
@@ -14,14 +13,13 @@ fail() {
 at=$(nm "$program" | awk -v f="$function" '{ place = $1; sub(/^[^ ]+ [^ ]+ /, "") } $0 == f { print place }')
 [ -n "$at" ] || fail "no function $function in $program"
 
-# As in count.sh; here the loader is always named, so that the trace says where it puts the program.
-tools=$(dirname "$(dirname "$(rt doc)")")/on/$machine/toolchain
-emulator=$tools/bin/qemu-x86_64
-[ -x "$emulator" ] || emulator=$(command -v qemu-x86_64)
+# shellcheck source=tools/x86.sh
+. "$(dirname "$0")/x86.sh"
 if [ -z "$emulator" ]; then
     echo -
     exit
 fi
+# As in count.sh; here the loader is always named, so that the trace says where it puts the program.
 if [ "$machine" = x86_64 ]; then
     set -- /lib64/ld-linux-x86-64.so.2 "$program"
 else

@@ -1,5 +1,6 @@
 #!/bin/sh
-# make test: the kit's identity, the documents, the layout, and then rt's own gate, whose last line comes last.
+# make test: the kit's identity, the documents, the layout, rt's own gate, and the samples through the program that it built. rt's last line
+# comes last.
 cd "$(dirname "$0")/.." || exit 1
 fail() {
     echo "test: $*" >&2
@@ -26,4 +27,5 @@ rm -f "$log.status"
 # An edit that only makes a proof unfit for the code shows nothing.
 unfit=$(grep -rlE 'can be named from here|expected type `tie\.Need-' target/must-fail --include=.log 2>/dev/null)
 [ -z "$unfit" ] || fail "must-fail edits refused by the proof's shape: $unfit"
+sh tools/samples.sh || fail "samples/ holds what the program doesn't print"
 tail -n 1 "$log"

@@ -8,3 +8,4 @@ pub mod Outcomes
 pub mod Traded
 pub mod Auctioned
 pub mod Fronts
+pub mod Files

@@ -1,0 +1,646 @@
+#!/usr/bin/env python3
+"""samples.py: writes samples/*.session and samples/README.md. samples.py NAME: writes that one file to standard output.
+
+A sample is a function: its name is the file's, its docstring the README's sentence, what it returns the file's records. What
+is printed for it, samples/*.out, is not made here: the scope document says what is right there, not a program.
+"""
+import struct
+import sys
+from pathlib import Path
+
+BUY, SELL = 1, 2
+AT_THE_OPENING, AT_THE_CLOSE, DAY, LATER_DAY = 1, 2, 3, 4
+UNLIMITED = 0
+
+
+# The records of the scope document's "Session file", little-endian: length, kind, fields.
+def record(kind, fields):
+    return struct.pack("<HH", 4 + len(fields), kind) + fields
+
+
+def start(step=100, reference=100_000, factor=9, threshold=150, maximum=10**12):
+    return record(1, struct.pack("<IIHHQ", step, reference, factor, threshold, maximum))
+
+
+def order(side, quantity, limit, validity=DAY, member=7):
+    return record(2, struct.pack("<HBBII", member, side, validity, quantity, limit))
+
+
+def delete(number, member=7):
+    return record(3, struct.pack("<IH", number, member))
+
+
+def auction(which):
+    return record(4, struct.pack("<B", which))
+
+
+def buy(quantity, limit=UNLIMITED, **other):
+    return order(BUY, quantity, limit, **other)
+
+
+def sell(quantity, limit=UNLIMITED, **other):
+    return order(SELL, quantity, limit, **other)
+
+
+OPENING, CLOSING = auction(1), auction(2)
+SAMPLES, UNSTORED = [], []
+
+
+def sample(function):
+    SAMPLES.append(function)
+    return function
+
+
+def unstored(function):
+    UNSTORED.append(function)
+    return function
+
+
+# The scope document's own input and sums
+
+@sample
+def worked():
+    """The worked example: three buys and a sell trade 80 at the opening, the best limit first and then the lower number."""
+    return [start(), buy(50, 100_200), buy(50, 100_400), buy(50, 100_200), sell(80, 100_200), OPENING]
+
+
+@sample
+def p1():
+    """P1: with the reference price 100,000 and the factor 9 a limit of 899,900 passes and 900,000 is refused by 6."""
+    return [start(), buy(1, 899_900), buy(1, 900_000)]
+
+
+@sample
+def p2():
+    """P2: a limit of 11,200 passes (times 9 it is 100,800) and 11,100 is refused by 6 (99,900)."""
+    return [start(), buy(1, 11_200), buy(1, 11_100)]
+
+
+@sample
+def p3():
+    """P3: 5,000,000 at 200,000 reach the maximum order value and are refused by 7; 4,999,999 pass."""
+    return [start(), buy(5_000_000, 200_000), buy(4_999_999, 200_000)]
+
+
+@sample
+def p4():
+    """P4: an unlimited order of 10,000,000 reaches the maximum order value at the reference price and is refused by 8; 9,999,999 pass."""
+    return [start(), buy(10_000_000), buy(9_999_999)]
+
+
+@sample
+def p5():
+    """P5: buy 100 at 100,500 and sell 100 at 99,500 trade at neither limit but at the reference price between them."""
+    return [start(), buy(100, 100_500), sell(100, 99_500), OPENING]
+
+
+@sample
+def p6_sell_60():
+    """P6: where only 60 are sold demand exceeds supply, and the buy's limit is the price."""
+    return [start(), buy(100, 100_500), sell(60, 99_500), OPENING]
+
+
+@sample
+def p6_buy_60():
+    """P6: where only 60 are bought supply exceeds demand, and the sell's limit is the price."""
+    return [start(), buy(60, 100_500), sell(100, 99_500), OPENING]
+
+
+@sample
+def p7():
+    """P7: two unlimited orders trade at the reference price, the only candidate."""
+    return [start(), buy(50), sell(50), OPENING]
+
+
+@sample
+def p8():
+    """P8: an unlimited buy of 50 against a sell of 30 is a Non Opening; with an unlimited buy of 30 instead the opening trades."""
+    return [start(), buy(50), sell(30, 100_200), OPENING, delete(1), buy(30), OPENING]
+
+
+P9 = [buy(100, 100_400), buy(20, 100_200), sell(100, 99_800), sell(20, 100_400), OPENING]
+
+
+@sample
+def p9():
+    """P9: four candidates leave 20 over, on one side or the other, and the nearest to the reference price is the reference price."""
+    return [start()] + P9
+
+
+@sample
+def p9_reference_101000():
+    """P9 with the reference price 101,000, where nothing can be executed: the nearest of the others is 100,400."""
+    return [start(reference=101_000)] + P9
+
+
+@sample
+def p10():
+    """P10: a price 1.5% from the reference price is a Delayed Opening; asked again, it opens."""
+    return [start(), buy(10, 101_500), sell(10, 101_500), OPENING, OPENING]
+
+
+@sample
+def p10_at_once():
+    """P10: a price 1.4% from the reference price opens at once."""
+    return [start(), buy(10, 101_400), sell(10, 101_400), OPENING]
+
+
+@sample
+def empty_book():
+    """Both auctions of an empty book have outcome 2."""
+    return [start(), OPENING, CLOSING]
+
+
+@sample
+def at_the_close():
+    """An unlimited at-the-close buy is no part of the opening, nor of what could prevent it; the closing trades it and leaves no order."""
+    return [start(), buy(50, validity=AT_THE_CLOSE), sell(30, 100_200), OPENING, CLOSING, delete(1), delete(2)]
+
+
+# Refusals
+
+@sample
+def refusal_1_start():
+    """Refusal 1: each field of a start below its range and above it, a reference price that is no multiple of the step; then a good start."""
+    return [
+        start(step=0), start(step=1_000_001, reference=2_000_002),
+        start(reference=0), start(reference=100_000_100), start(reference=100_050),
+        start(factor=1), start(factor=1_000),
+        start(threshold=0), start(threshold=10_000),
+        start(maximum=0), start(maximum=10**15 + 1),
+        start(),
+    ]
+
+
+@sample
+def refusal_1_order():
+    """Refusal 1: each field of an order out of its range, below and above where it can be; the highest quantity and the highest limit are good."""
+    return [
+        # parameters that no control refuses these by
+        start(reference=1_000_000, factor=999, maximum=10**15),
+        buy(10, 1_000_000, member=0),
+        order(0, 10, 1_000_000), order(3, 10, 1_000_000),
+        buy(10, 1_000_000, validity=0), buy(10, 1_000_000, validity=5),
+        buy(0, 1_000_000), buy(10_000_001, 1_000_000),
+        buy(10, 100_000_100),
+        buy(10_000_000, 1_000_000), buy(1, 100_000_000),
+    ]
+
+
+@sample
+def refusal_1_delete():
+    """Refusal 1: a delete's number 0 or 1,000,001 and its member 0; the ends of both ranges are in range, and 11 when no such order rests."""
+    return [start(), buy(10, 100_000), delete(0), delete(1_000_001), delete(1, member=0),
+            delete(1_000_000), delete(1, member=1), delete(1, member=65_535), delete(1)]
+
+
+@sample
+def refusal_1_auction():
+    """Refusal 1: auctions 0, 3 and 255; then an opening."""
+    return [start(), auction(0), auction(3), auction(255), OPENING]
+
+
+@sample
+def refusal_1_first():
+    """Refusal 1 goes before 2, 3, 4 and 11: fields out of range before the start, on a started session and when closed."""
+    return [buy(0), delete(0), auction(0), start(factor=1), start(), start(factor=1), delete(0),
+            OPENING, CLOSING, buy(0), auction(3), start(factor=1)]
+
+
+@sample
+def refusal_2():
+    """Refusal 2: an order, a delete and both auctions before the start; the order refused took no number."""
+    return [buy(10, 100_000), delete(1), OPENING, CLOSING, start(), buy(10, 100_000)]
+
+
+@sample
+def refusal_3():
+    """Refusal 3: start on a started session, in each of its phases; the first start's step stays in force."""
+    again = start(step=50)
+    return [start(), start(), again, buy(10, 100_050), OPENING, again, buy(10, 100_050), CLOSING, again]
+
+
+@sample
+def refusal_4_orders():
+    """Refusal 4: every validity may be entered in pre-opening, all but at-the-opening in day, none when closed; deleting is allowed even then."""
+    each = [buy(10, 99_000, validity=v) for v in (AT_THE_OPENING, AT_THE_CLOSE, DAY, LATER_DAY)]
+    return [start(), *each, OPENING, *each, CLOSING, *each, delete(4), delete(7)]
+
+
+@sample
+def refusal_4_auctions():
+    """Refusal 4: no closing in pre-opening, no opening in day, neither when closed."""
+    return [start(), CLOSING, OPENING, OPENING, CLOSING, OPENING, CLOSING]
+
+
+@sample
+def refusal_5():
+    """Refusal 5: limits that are no multiple of the step 100; an unlimited order is none of them."""
+    return [start(), buy(10, 100_001), sell(10, 100_050), sell(10, 100_199), sell(10, 100_200), buy(10)]
+
+
+@sample
+def refusal_6():
+    """Refusal 6 at both ends: with the reference price 90,000 and the factor 9 to reach 10,000 or 810,000 is a hit; one step inside passes."""
+    return [start(reference=90_000), buy(10, 10_000), buy(10, 10_100), sell(10, 810_000), sell(10, 809_900)]
+
+
+@sample
+def refusal_7():
+    """Refusal 7: 2,500,000 at 400,000 reach the maximum order value by the limit alone, on either side; one less passes."""
+    return [start(), buy(2_500_000, 400_000), sell(2_500_000, 400_000), buy(2_499_999, 400_000)]
+
+
+@sample
+def refusal_8():
+    """Refusal 8: 10,000,000 at the reference price reach the maximum order value, even if the limit is half of it; one less passes."""
+    return [start(), sell(10_000_000), buy(10_000_000, 50_000), buy(9_999_999, 50_000)]
+
+
+@unstored
+def refusal_9():
+    """Refusal 9: when 1,000,000 numbers have been given no order gets one, in a full book (9 goes before 10) or after a deletion."""
+    one = buy(1, 99_000)
+    entered = [one + delete(n) for n in range(1, 1_000_000 - 511)]
+    return [start(), *entered, one * 512, one, delete(1_000_000), one]
+
+
+# 512 orders that don't trade
+FULL = [buy(10, 99_000)] * 256 + [sell(10, 101_000)] * 256
+
+
+@sample
+def refusal_10():
+    """Refusal 10: the 513th order finds all places taken; a deletion frees one for the next, number 513; the one after is refused again."""
+    return [start(), *FULL, buy(10, 99_000), delete(200), buy(10, 99_000), buy(10, 99_000)]
+
+
+@sample
+def refusal_11():
+    """Refusal 11: a number never given, another member's, one deleted already, two that traded, and one that left after the opening."""
+    return [
+        start(), buy(10, 99_000), buy(10, 100_000, member=8), sell(10, 100_000), buy(10, 98_000, validity=AT_THE_OPENING),
+        delete(5), delete(1, member=8), delete(2), delete(1), delete(1),
+        OPENING, delete(2, member=8), delete(3), delete(4),
+    ]
+
+
+@sample
+def first_hit():
+    """The first hit answers: an order meets refusals 1, 4, 5, 6, 7, 8 and 10 at once, the next one less, and so on to a good one."""
+    return [
+        start(), *FULL, OPENING,
+        buy(10_000_000, 950_050, validity=AT_THE_OPENING, member=0),
+        buy(10_000_000, 950_050, validity=AT_THE_OPENING),
+        buy(10_000_000, 950_050),
+        buy(10_000_000, 950_000),
+        buy(10_000_000, 800_000),
+        buy(10_000_000, 50_000),
+        buy(10, 50_000),
+        delete(1),
+        buy(10, 50_000),
+    ]
+
+
+@sample
+def start_lowest():
+    """A start with every field at the lowest of its range is good; no order then passes the controls: refusals 7, 6 and 8."""
+    return [start(step=1, reference=1, factor=2, threshold=1, maximum=1), buy(1, 1), sell(1, 2), sell(1)]
+
+
+@sample
+def start_highest():
+    """A start with every field at the highest of its range, and orders of the first and the last member that trade at the highest price."""
+    return [
+        start(step=1_000_000, reference=100_000_000, factor=999, threshold=9_999, maximum=10**15),
+        buy(10_000_000, 100_000_000), buy(10_000_000, 99_000_000), buy(9_999_999, 100_000_000, member=1),
+        sell(9_999_999, 100_000_000, member=65_535), OPENING,
+    ]
+
+
+# Outcomes, and what an auction leaves
+
+@sample
+def outcome_1():
+    """Outcome 1: the opening trades 60; what is left of the buy stays, and the closing trades just that."""
+    return [start(), buy(100, 100_200), sell(60, 100_200), OPENING, sell(100, 100_200), CLOSING]
+
+
+@sample
+def outcome_2():
+    """Outcome 2: limits that don't meet; the at-the-opening order leaves, the others stay, and the reference price stays for the closing."""
+    return [start(), buy(10, 99_900, validity=AT_THE_OPENING), buy(10, 99_800), sell(10, 100_100), OPENING,
+            delete(1), delete(2), buy(5), sell(5), CLOSING]
+
+
+@sample
+def outcome_3():
+    """Outcome 3, Non Opening: an unlimited sell of 50 finds 30; nothing changes, however often it is asked, until 20 more are bought."""
+    return [start(), sell(50), buy(30, 99_800), OPENING, OPENING, CLOSING, buy(20, 99_900, validity=AT_THE_OPENING), OPENING]
+
+
+@sample
+def outcome_3_alone():
+    """An unlimited order with nobody opposite is a Non Opening, not outcome 2."""
+    return [start(), buy(10), OPENING]
+
+
+@sample
+def outcome_3_before_4():
+    """Where both would hold, Non Opening comes before Delayed Opening and doesn't spend the delay."""
+    return [start(), buy(50), sell(30, 110_000), OPENING, delete(1), buy(30), OPENING, OPENING]
+
+
+@sample
+def outcome_4():
+    """Outcome 4, Delayed Opening: it is still pre-opening, and the delay is spent: asked again, another price as far away opens."""
+    return [start(), buy(10, 102_000), sell(10, 102_000), OPENING, CLOSING, delete(1), delete(2),
+            buy(10, 103_000, validity=AT_THE_OPENING), sell(10, 103_000), OPENING]
+
+
+@sample
+def outcome_4_below():
+    """A price below the reference price by the threshold is a Delayed Opening too; asked again, it opens."""
+    return [start(), buy(10, 98_500), sell(10, 98_500), OPENING, OPENING]
+
+
+@sample
+def closing_unlimited():
+    """Unlimited orders that stay unfilled don't prevent the closing: it trades 30 of 50."""
+    return [start(), OPENING, buy(50), sell(30, 100_200), CLOSING]
+
+
+@sample
+def closing_alone():
+    """A closing with an unlimited order alone has outcome 2."""
+    return [start(), OPENING, buy(50), CLOSING]
+
+
+@sample
+def closing_far():
+    """A closing is never delayed: it trades at once, half above the reference price."""
+    return [start(), OPENING, buy(10, 150_000), sell(10, 150_000), CLOSING]
+
+
+@sample
+def two_auctions():
+    """The opening moves the reference price to 101,400: the controls then refuse 11,200 and pass 900,000, and unlimited orders close at it."""
+    return [
+        start(), buy(10, 101_400), sell(10, 101_400), buy(1, 11_200), sell(1, 900_000), OPENING,
+        buy(1, 11_200), sell(1, 900_000), buy(50), sell(50), CLOSING,
+    ]
+
+
+@sample
+def kept_for_the_closing():
+    """An at-the-close buy with the best limit is kept out of an opening that trades, and trades in the closing."""
+    return [start(), buy(50, 100_400, validity=AT_THE_CLOSE), buy(30, 100_200), sell(30, 100_000), OPENING,
+            sell(50, 100_400), CLOSING]
+
+
+@sample
+def what_leaves():
+    """Four orders that never trade: at-the-opening leaves with the opening, at-the-close and day with the closing, till a later day stays."""
+    each = [buy(10, 99_000, validity=v) for v in (AT_THE_OPENING, AT_THE_CLOSE, DAY, LATER_DAY)]
+    return [start(), *each, OPENING, delete(1), CLOSING, delete(2), delete(3), delete(4)]
+
+
+@sample
+def rank():
+    """Both sides by rank: unlimited first, then the better price, then the lower number."""
+    return [
+        start(),
+        buy(10, 100_200), buy(10), buy(10, 100_400), buy(10, 100_400),
+        sell(10, 100_000), sell(10, 99_800), sell(10), sell(10, 100_000),
+        OPENING,
+    ]
+
+
+@sample
+def reused_place():
+    """An order that takes the place of a deleted one doesn't jump the queue: of two equal limits the lower number trades first."""
+    return [start(), buy(10, 100_000), buy(10, 100_000), delete(1), buy(10, 100_000), sell(10, 100_000), OPENING,
+            sell(10, 100_000), CLOSING]
+
+
+@sample
+def full_book():
+    """A full book of 256 buys and 256 sells, the 513th order refused, and the most trades that an auction can have, 511; none rests then."""
+    buys = [buy(2, 100_000)] * 256
+    sells = [sell(1, 100_000)] + [sell(2, 100_000)] * 254 + [sell(3, 100_000)]
+    return [start(), *buys, *sells, buy(1, 100_000), OPENING, delete(1), delete(512), sell(1, 100_000), CLOSING]
+
+
+# The price
+
+@sample
+def tie_1():
+    """The price, step 1: 100 can be executed at 100,400 and only 30 at the reference price."""
+    return [start(), buy(100, 100_400), buy(50, 100_000), sell(80, 100_400), sell(30, 100_000), OPENING]
+
+
+@sample
+def tie_2():
+    """The price, step 2: 60 can be executed at three candidates; at 100,600 none are left over, at the other two 40."""
+    return [start(), buy(60, 100_600), buy(40, 100_200), sell(60, 100_000), OPENING]
+
+
+@sample
+def tie_3_highest():
+    """The price, step 3: at 100,100 and at 100,700 demand exceeds supply by 40, and the highest is taken."""
+    return [start(), buy(120, 100_700), buy(10, 99_900), sell(50, 99_800), sell(30, 100_100), OPENING]
+
+
+@sample
+def tie_3_lowest():
+    """The price, step 3: at 99,300 and at 99,900 supply exceeds demand by 40, and the lowest is taken."""
+    return [start(), sell(120, 99_300), sell(10, 100_100), buy(50, 100_200), buy(30, 99_900), OPENING]
+
+
+@sample
+def tie_4_above():
+    """The price, step 4: nothing is left over at 100,300 or at 100,800, and the nearer to the reference price is taken."""
+    return [start(), buy(40, 100_800), sell(40, 100_300), OPENING]
+
+
+@sample
+def tie_4_below():
+    """The price, step 4: nothing is left over at 99,200 or at 99,700, and the nearer to the reference price is taken."""
+    return [start(), buy(40, 99_700), sell(40, 99_200), OPENING]
+
+
+@sample
+def tie_4_both_sides():
+    """The price, step 4: at 99,400 20 are left of the buys, at 99,800 20 of the sells, and the nearer to the reference price is taken."""
+    return [start(), buy(100, 99_800), buy(20, 99_400), sell(100, 99_400), sell(20, 99_800), OPENING]
+
+
+# Files that are empty, cut or faulty
+
+@sample
+def empty():
+    """An empty file is good and has no records."""
+    return []
+
+
+@sample
+def not_a_session():
+    """A text: its first four bytes are no header, and the walk ends at once."""
+    return [b"This is not a session file.\n"]
+
+
+@sample
+def cut_first_byte():
+    """A record cut after the first byte of its length."""
+    return [start(), buy(10)[:1]]
+
+
+@sample
+def cut_header():
+    """A record cut inside its header, after three bytes."""
+    return [start(), buy(10)[:3]]
+
+
+@sample
+def cut_behind_header():
+    """A record cut between its header and its fields."""
+    return [start(), OPENING[:4]]
+
+
+@sample
+def cut_fields():
+    """A record cut inside its fields."""
+    return [start(), buy(10)[:10]]
+
+
+@sample
+def cut_last_byte():
+    """A record that lacks its last byte."""
+    return [start(), buy(10), delete(1)[:-1]]
+
+
+@sample
+def unknown_kind():
+    """A record of kind 5 ends the walk; the good records behind it are not read."""
+    return [start(), struct.pack("<HHB", 5, 5, 1), buy(10), OPENING]
+
+
+@sample
+def unknown_kind_0():
+    """A record of kind 0 ends the walk."""
+    return [start(), struct.pack("<HHB", 5, 0, 1), buy(10)]
+
+
+@sample
+def unknown_kind_258():
+    """A kind has two bytes: 258, whose first byte is an order's 2, is unknown."""
+    return [start(), struct.pack("<HH", 16, 258) + buy(10)[4:], buy(10)]
+
+
+@sample
+def too_short():
+    """An order that says 15 bytes, and has them."""
+    return [start(), struct.pack("<HH", 15, 2) + buy(10)[4:-1], buy(10)]
+
+
+@sample
+def too_long():
+    """An order that says 17 bytes, and has them."""
+    return [start(), struct.pack("<HH", 17, 2) + buy(10)[4:] + b"\0", buy(10)]
+
+
+@sample
+def length_0():
+    """A record that says 0 bytes ends the walk."""
+    return [start(), struct.pack("<HH", 0, 4), OPENING]
+
+
+@sample
+def length_272():
+    """A length has two bytes: 272, whose first byte is an order's 16, is no order's."""
+    return [start(), struct.pack("<HH", 272, 2) + buy(10)[4:] + bytes(256), buy(10)]
+
+
+@sample
+def length_of_another():
+    """An order that says 10 bytes, a delete's length, and has them."""
+    return [start(), struct.pack("<HH", 10, 2) + buy(10)[4:10], buy(10)]
+
+
+@sample
+def fault_after_good():
+    """A fault after good records: they are answered, trades and all, the fault has the next place, and the end doesn't count it."""
+    return worked() + [struct.pack("<HHB", 6, 4, 2), CLOSING]
+
+
+@sample
+def boundaries():
+    """Records of all sizes, more than 256 KiB: reads of 64 KiB end inside an order, a delete's header, a start, and before the opening's field."""
+    file = bytearray(start())
+    number = 1
+    file += sell(1, 100_000)
+
+    def fill(end):
+        """Records up to this length: orders that are deleted again, starts and closings that are refused, and a few sells that stay."""
+        nonlocal number
+        while end - len(file) >= 120:
+            number += 1
+            file.extend(buy(number, 90_000) + delete(number) + start() + CLOSING)
+        # 16 leaves 1 when divided by 5, so these orders leave room for closings alone
+        for _ in range((end - len(file)) % 5):
+            number += 1
+            file.extend(sell(number, 100_000))
+        file.extend(CLOSING * ((end - len(file)) // 5))
+
+    kib64 = 65_536
+    fill(1 * kib64 - 10)
+    number += 1
+    file += buy(70_000, 100_000)
+    fill(2 * kib64 - 2)
+    file += delete(1)
+    fill(3 * kib64 - 20)
+    file += start()
+    fill(4 * kib64 - 4)
+    file += OPENING
+    return [file, sell(70_000, 100_000), CLOSING]
+
+
+README = """# Samples
+
+Session files, what each of them shows, and what is printed for it: `NAME.session` and `NAME.out`. `make run FILE=samples/worked.session` runs one;
+`tools/samples.sh`, a part of `make test`, runs all of them and holds what they print to the `.out`, byte by byte.
+
+`tools/samples.py` makes the session files and this page. It doesn't make a `.out`: the scope document says what is right there, so a `.out` changes only when
+a rule does.
+
+Unless the sentence says otherwise a session has the step 100, the reference price 100,000, the factor 9, the threshold 150 and the maximum order value
+1,000,000,000,000, and its orders are day orders of member 7. Refusals are named by their number in the scope document. Refusal 12 can't come up in a
+file: the program lends every auction a list that is long enough.
+
+| file | what it shows |
+|---|---|
+"""
+
+UNSTORED_ROW = " Not stored, for its 26 MB: `python3 tools/samples.py {}` prints it, and `tools/samples.sh` looks at its last lines."
+
+
+def main():
+    if len(sys.argv) > 1:
+        made = {f.__name__: f for f in SAMPLES + UNSTORED}
+        if sys.argv[1] not in made:
+            sys.exit(f"samples: no sample {sys.argv[1]}")
+        sys.stdout.buffer.write(b"".join(made[sys.argv[1]]()))
+        return
+    folder = Path(__file__).resolve().parent.parent / "samples"
+    for old in folder.glob("*.session"):
+        old.unlink()
+    rows = []
+    for f in SAMPLES:
+        (folder / f"{f.__name__}.session").write_bytes(b"".join(f()))
+        rows.append(f"| `{f.__name__}` | {f.__doc__} |\n")
+    for f in UNSTORED:
+        rows.append(f"| `{f.__name__}` | {f.__doc__}{UNSTORED_ROW.format(f.__name__)} |\n")
+    (folder / "README.md").write_text(README + "".join(rows), encoding="utf-8")
+
+
+main()

@@ -1,0 +1,59 @@
+#!/bin/sh
+# Runs every session file of samples/ and holds what is printed to its .out, byte by byte. tools/samples.py makes the files.
+cd "$(dirname "$0")/.." || exit 1
+program=target/bin/replay
+[ -x "$program" ] || { echo "samples: no program $program: rt check replay builds it"; exit 1; }
+# shellcheck source=tools/x86.sh
+. tools/x86.sh
+dir=$(mktemp -d) || exit 1
+trap 'rm -rf "$dir"' EXIT
+
+# same NAME STORED: what was printed is what is stored
+same() {
+    cmp -s "$2" "$dir/printed" && return
+    echo "samples: $1: first difference: $(diff "$2" "$dir/printed" | sed -n '2{s/^</stored/;s/^>/printed/;p;}')"
+    return 1
+}
+# held NAME STORED: what standard input prints is what is stored
+held() {
+    x86 "$program" >"$dir/printed" || { echo "samples: $1: the program failed"; return 1; }
+    same "$1" "$2"
+}
+
+bad=0
+count=0
+for file in samples/*.session; do
+    name=$(basename "$file" .session)
+    [ -f "samples/$name.out" ] || { echo "samples: $name has no .out"; bad=1; continue; }
+    held "$name" "samples/$name.out" <"$file" || bad=1
+    count=$((count + 1))
+done
+for file in samples/*.out; do
+    name=$(basename "$file" .out)
+    [ -f "samples/$name.session" ] || { echo "samples: $name has no .session"; bad=1; }
+done
+
+# In pieces, so that reads are cut anywhere: each by a process of its own, which takes longer than the program does.
+pieces() {
+    size=$(wc -c <"$2")
+    at=0
+    while [ $((at * $1)) -lt "$size" ]; do
+        dd bs="$1" skip=$at count=1 if="$2" 2>/dev/null
+        at=$((at + 1))
+    done
+}
+pieces 701 samples/boundaries.session | held 'boundaries in pieces' samples/boundaries.out || bad=1
+# A first read that ends inside the second record's header, whatever the machine's pace.
+{ dd bs=26 count=1 2>/dev/null; sleep 1; cat; } <samples/worked.session | held 'worked in two pieces' samples/worked.out || bad=1
+
+# A million numbers: made here, since it is too long to be stored.
+if command -v python3 >/dev/null 2>&1; then
+    printf '%s\n' '1999489 order 0 1000000' '1999490 order 9 0' '1999491 delete 0' '1999492 order 9 0' 'end 1999492' >"$dir/stored"
+    python3 tools/samples.py refusal_9 | x86 "$program" | tail -n 5 >"$dir/printed"
+    same refusal_9 "$dir/stored" || bad=1
+else
+    echo "samples: no python3 on the PATH: refusal_9 is not run"
+fi
+
+[ $bad -ne 0 ] || echo "samples: $count files as stored"
+exit $bad
