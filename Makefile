@@ -1,5 +1,5 @@
 # The front door. `make test` is the gate; see README.md.
-.PHONY: test run bench
+.PHONY: test run bench compare soak release verify
 
 test:
 	@sh tools/test.sh
@@ -11,3 +11,17 @@ run:
 # What a call costs: docs/BENCHMARKS.md.
 bench:
 	@sh tools/bench.sh
+
+# The session program against the second one: the fixed set, and as many seeds as one likes (make soak N=100000).
+compare:
+	@sh tools/compare.sh
+
+soak:
+	@sh tools/compare.sh "$${N:-10000}"
+
+# A folder for customers, DIR or release/, of a commit that passed the gate; and whether such a folder is this tree's.
+release:
+	@sh tools/release.sh "$$DIR"
+
+verify:
+	@sh tools/verify.sh "$$DIR"

@@ -1,9 +1,10 @@
 #!/bin/sh
-# make bench: what the calls cost, as differences of runs of the crates entry_cost and auction_cost, each of which makes one call by its input.
+# make bench: what the calls cost, as differences of runs of the crates entry_cost and auction_cost, each of which makes one call by its input;
+# then what the session program costs beside the same in plain C, bench/plain.c.
 cd "$(dirname "$0")/.." || exit 1
 dir=$(mktemp -d) || exit 1
 trap 'rm -rf "$dir"' EXIT
-rt check entry_cost auction_cost >"$dir/log" 2>&1 || {
+rt check entry_cost auction_cost replay >"$dir/log" 2>&1 || {
     tail -n 20 "$dir/log" >&2
     exit 1
 }
@@ -56,3 +57,61 @@ echo
 printf %s ama >"$dir/stdin"
 stack=$(sh tools/stack.sh target/bin/auction_cost session::Session::auction "$dir/stdin") || exit 1
 echo "stack of an auction: $stack bytes"
+
+fail() {
+    echo "bench: $*" >&2
+    exit 1
+}
+# shellcheck source=tools/x86.sh
+. tools/x86.sh
+lib=$tools/lib
+for part in "$tools/bin/clang" "$tools/bin/ld.lld" "$lib/Scrt1.o" "$lib/crti.o" "$lib/crtn.o" "$lib/libc.so.6"; do
+    [ -e "$part" ] || fail "the kit has no $part: nothing here builds C for x86-64"
+done
+# compile SOURCE PROGRAM [FLAG]: by the kit's compiler, linker and C library; bench/include stands for the headers, which the kit has not.
+compile() {
+    "$tools/bin/clang" --target=x86_64-unknown-linux-gnu -march=x86-64 -std=c11 -O2 -fPIE -nostdinc -isystem bench/include ${3:+"$3"} \
+        -c "$1" -o "$2.o" || fail "$1 is not compiled"
+    "$tools/bin/ld.lld" -melf_x86_64 -pie -z now --dynamic-linker /lib64/ld-linux-x86-64.so.2 \
+        "$lib/Scrt1.o" "$lib/crti.o" "$2.o" "$lib/libc.so.6" "$lib/crtn.o" -o "$2" || fail "$1 is not linked"
+}
+compile bench/records.c "$dir/records"
+compile bench/plain.c "$dir/plain"
+compile bench/plain.c "$dir/sums" -DRUNNING_SUMS
+
+for file in empty mixed full opening; do
+    x86 "$dir/records" "$file" >"$dir/$file" || fail "no session file $file"
+    x86 target/bin/replay <"$dir/$file" >"$dir/lines" || fail "replay does not run $file"
+    for program in plain sums; do
+        x86 "$dir/$program" <"$dir/$file" | cmp -s - "$dir/lines" || fail "$program and replay print different lines for $file"
+    done
+done
+
+# cost PROGRAM: instructions and bytes moved for each of the 5,000 mixed records, then for the auction of a full book
+cost() {
+    empty=$(sh tools/count.sh "$1" "$dir/empty") || exit 1
+    mixed=$(sh tools/count.sh "$1" "$dir/mixed") || exit 1
+    full=$(sh tools/count.sh "$1" "$dir/full") || exit 1
+    opening=$(sh tools/count.sh "$1" "$dir/opening") || exit 1
+    echo "$(more "$empty" "$mixed") $(more "$full" "$opening")" |
+        awk '{ printf "%.0f %s %s %s\n", $1 / 5000, ($2 == "-") ? "-" : sprintf("%.0f", $2 / 5000), $3, $4 }'
+}
+replay=$(cost target/bin/replay) || exit 1
+plain=$(cost "$dir/plain") || exit 1
+sums=$(cost "$dir/sums") || exit 1
+
+widest() { printf '%-28s %12s %12s %12s %12s\n' "$@"; }
+# ratio TITLE COST: the instructions of replay for one of the other's
+ratio() {
+    echo "$replay $2" | awk -v title="$1" '{ printf "%-28s %12.2f %12s %12.2f\n", title, $1 / $5, "", $3 / $7 }'
+}
+echo
+widest 'a session file' 'a record' 'bytes moved' 'an auction' 'bytes moved'
+# shellcheck disable=SC2086
+{
+    widest 'replay' $replay
+    widest 'plain C' $plain
+    widest 'C, running sums' $sums
+}
+ratio 'replay / plain C' "$plain"
+ratio 'replay / C, running sums' "$sums"

@@ -1,7 +1,8 @@
 #!/bin/sh
-# make test: the kit's identity, the documents, the layout, rt's own gate, and the samples through the program that it built. rt's last line
-# comes last.
+# make test: the kit's identity, the documents, the layout, rt's own gate; then the program that it built: the samples, the comparison with the
+# second program, and that a release can't go stale. rt's last line comes last.
 cd "$(dirname "$0")/.." || exit 1
+rm -f target/gate
 fail() {
     echo "test: $*" >&2
     exit 1
@@ -18,7 +19,10 @@ sh tools/statements.sh || fail "docs/STATEMENTS.md names what is not there"
 rt fmt --check || fail "not in the layout: run rt fmt"
 
 log=$(mktemp) || exit 1
-trap 'rm -f "$log"' EXIT
+trap 'rm -f "$log" "$log.began"' EXIT
+# A release rests on target/gate: of which commit this run was, and whether the tree was that commit from its beginning to its end.
+: >"$log.began"
+before=$(. tools/facts.sh && commit && changes)
 { rt ci 2>&1; echo $? >"$log.status"; } | tee "$log"
 status=$(cat "$log.status")
 rm -f "$log.status"
@@ -28,4 +32,13 @@ rm -f "$log.status"
 unfit=$(grep -rlE 'can be named from here|expected type `tie\.Need-' target/must-fail --include=.log 2>/dev/null)
 [ -z "$unfit" ] || fail "must-fail edits refused by the proof's shape: $unfit"
 sh tools/samples.sh || fail "samples/ holds what the program doesn't print"
+ALLOW_NO_RUSTC=1 sh tools/compare.sh || fail "the two programs differ, or a rule never came up"
+sh tools/release-test.sh || fail "a release could go stale"
+(
+    . tools/facts.sh
+    tree=changed
+    # An edit that was taken back while the crates were proved leaves nothing but its time.
+    if [ "$before" = "$(commit)" ] && [ -z "$(changes)" ] && [ -z "$(find crates crates.txt -newer "$log.began")" ]; then tree=clean; fi
+    record "$tree" "$(tail -n 1 "$log")" "$(rt version)" >target/gate
+)
 tail -n 1 "$log"

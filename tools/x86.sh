@@ -6,15 +6,19 @@ tools=$(dirname "$(dirname "$(rt doc)")")/on/$machine/toolchain
 emulator=$tools/bin/qemu-x86_64
 [ -x "$emulator" ] || emulator=$(command -v qemu-x86_64)
 
-# x86 PROGRAM: runs it, on Arm through the emulator
-x86() {
-    if [ "$machine" = x86_64 ]; then
-        "$@"
-    elif [ -n "$emulator" ]; then
-        # Without erms the C library doesn't copy by string moves, which are emulated byte by byte: some thirty times slower.
-        "$emulator" -cpu max,-erms "$tools/lib/ld-linux-x86-64.so.2" --library-path "$tools/lib" "$@"
-    else
+# Without erms the C library doesn't copy by string moves, which are emulated byte by byte: some thirty times slower.
+words="'$emulator' -cpu max,-erms '$tools/lib/ld-linux-x86-64.so.2' --library-path '$tools/lib'"
+[ "$machine" != x86_64 ] || words=
+# x86words: what stands before a program's name in a line for sh
+x86words() {
+    [ "$machine" = x86_64 ] || [ -n "$emulator" ] || {
         echo "$(basename "$0" .sh): no qemu-x86_64, in the kit or on the PATH: nothing here runs an x86-64 program" >&2
         return 1
-    fi
+    }
+    echo "$words"
+}
+# x86 PROGRAM WORD..: runs it, on Arm through the emulator
+x86() {
+    before=$(x86words) || return 1
+    eval "$before \"\$@\""
 }

@@ -88,8 +88,8 @@ module _ (bn bq sn sq : List ℕ) where
       pub done : List Trade
       pub count : length done ≡ k
       pub long : length list ≡ length old
-      pub buy-end : b .at ≤ length bq
-      pub sell-end : s .at ≤ length sq
+      buy-end : b .at ≤ length bq
+      sell-end : s .at ≤ length sq
       pub turns : k ≤ b .at + s .at
       pub whole : done ++ pairsFrom (length bq + length sq - k) b s ≡ allPairs
       pub holds : 4 * k ≤ length old → list ≡ written price done old

@@ -42,14 +42,14 @@ limit-back Unlimited h = refl
 limit-back (At zero) h = absurd h
 limit-back (At (suc n)) h = refl
 
-pub order-back : (o : Order) → T (isLimit (o .limit)) → orderFrom (rawOf o) ≡ o
+order-back : (o : Order) → T (isLimit (o .limit)) → orderFrom (rawOf o) ≡ o
 order-back o h = rw (side-back (o .side), validity-back (o .validity), limit-back (o .limit) h)
 
 module _ (b : Book) (words : List ℕ) (place : ℕ) (r : Raw) where
-  pub written-elsewhere : (p : ℕ) → p ≢ place → rawAt (written b words place r) p ≡ rawAt b p
+  written-elsewhere : (p : ℕ) → p ≢ place → rawAt (written b words place r) p ≡ rawAt b p
   written-elsewhere p n = simp getD-set-other
 
-  pub written-here : Sized b → place < places → rawAt (written b words place r) place ≡ r
+  written-here : Sized b → place < places → rawAt (written b words place r) place ≡ r
   written-here sized h =
       rw (
         cell (b .number) (r .number) (sized .number),
@@ -63,7 +63,7 @@ module _ (b : Book) (words : List ℕ) (place : ℕ) (r : Raw) where
       cell : (column : List ℕ) (x : ℕ) → length column ≡ places → getD (set column place x) place 0 ≡ x
       cell column x e = getD-set-same column place x 0 (omega arith)
 
-  pub written-sized : Sized b → length words ≡ 8 → Sized (written b words place r)
+  written-sized : Sized b → length words ≡ 8 → Sized (written b words place r)
   written-sized sized e = record {
     taken = e;
     number = rw length-set (sized .number);

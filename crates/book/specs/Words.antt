@@ -38,7 +38,7 @@ zero-or-one zero h = inl refl
 zero-or-one (suc zero) h = inr refl
 zero-or-one (suc (suc n)) h = absurd (omega arith)
 
-pub bit-cases : (k x : ℕ) → (bit k x ≡ 0) ⊎ (bit k x ≡ 1)
+bit-cases : (k x : ℕ) → (bit k x ≡ 0) ⊎ (bit k x ≡ 1)
 bit-cases k x = zero-or-one (bit k x) (bit-lt k x)
 
 -- the code's 1 << k loses nothing
@@ -193,7 +193,7 @@ least-zero f (suc n) h = go (least-zero (λ k. f (suc k)) n) (f 0) refl h
     go again (suc d) e h = again (omega arith)
 
 -- ---- totals
-pub total-same : (f g : ℕ → ℕ) (n : ℕ) → ((k : ℕ) → k < n → f k ≡ g k) → total f n ≡ total g n
+total-same : (f g : ℕ → ℕ) (n : ℕ) → ((k : ℕ) → k < n → f k ≡ g k) → total f n ≡ total g n
 unfolding total
 total-same f g zero h = refl
 total-same f g (suc n) h = rw (h n (omega arith), total-same f g n (λ k l. h k (omega arith)))

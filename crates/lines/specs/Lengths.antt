@@ -30,7 +30,7 @@ line-length place (Answer.Order a n) = omega (arith, placed-length place orderWo
 line-length place (Answer.Delete a) = omega (arith, placed-length place deleteWord (a ∷ []))
 line-length place (Answer.Auction a r) = omega (arith, placed-length place auctionWord (a ∷ r .outcome ∷ r .price ∷ r .quantity ∷ r .count ∷ []))
 
-pub trade-length : (t : Trade) → length (tradeLine t) ≤ tradeRoom
+trade-length : (t : Trade) → length (tradeLine t) ≤ tradeRoom
 trade-length t = omega (arith, length-append tradeWord (numbers (t .buy ∷ t .sell ∷ t .quantity ∷ [])), numbers-length (t .buy ∷ t .sell ∷ t .quantity ∷ []))
 
 pub trades-room : (ts : List Trade) → length (tradeLines ts) ≤ tradeRoom * length ts

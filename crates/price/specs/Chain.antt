@@ -82,7 +82,7 @@ module _ (reference : ℕ) (book : List Order) where
       let (m0, most) = largest-elim (executable book) (candidates reference book) m1 in
       (m0, most, least)
 
-  pub kept-between : {a b c : ℕ} → a ∈ kept reference book → b ∈ kept reference book → c ∈ candidates reference book → a ≤ c → c ≤ b → c ∈ kept reference book
+  kept-between : {a b c : ℕ} → a ∈ kept reference book → b ∈ kept reference book → c ∈ candidates reference book → a ≤ c → c ≤ b → c ∈ kept reference book
   kept-between {a} {b} {c} ma mb mc ac cb =
       let (a0, a-most, a-least) = kept-elim ma in
       let (b0, b-most, b-least) = kept-elim mb in
@@ -115,7 +115,7 @@ module _ (reference : ℕ) (book : List Order) where
       (decided (leb a reference))
 
   -- the chain leaves one price ..
-  pub settled-one : {a b : ℕ} → a ∈ settled reference book (kept reference book) → b ∈ settled reference book (kept reference book) → a ≡ b
+  settled-one : {a b : ℕ} → a ∈ settled reference book (kept reference book) → b ∈ settled reference book (kept reference book) → a ≡ b
   settled-one {a} {b} = go (all (demandExceeds book) (kept reference book)) (all (supplyExceeds book) (kept reference book))
     where
       go : (x y : Bool) → a ∈ leaders (preferred x y reference) (kept reference book) → b ∈ leaders (preferred x y reference) (kept reference book) → a ≡ b

@@ -33,7 +33,7 @@ abbrev pub difference : List Order → ℕ → ℕ
 difference book p = apart (demand book p) (supply book p)
 
 -- a worse price is allowed by fewer limits
-pub allows-mono : (s : Side) (p q : ℕ) (w : Limit) → T (noWorse s p q) → T (allows s q w) → T (allows s p w)
+allows-mono : (s : Side) (p q : ℕ) (w : Limit) → T (noWorse s p q) → T (allows s q w) → T (allows s p w)
 allows-mono s p q Unlimited h k = tt
 allows-mono s p q (At l) h k = noWorse-trans s p q l h k
 

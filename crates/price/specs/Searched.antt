@@ -1,7 +1,7 @@
 -- The search finds what the chain leaves: the candidates weighed one after the other come to what the chain keeps of all of them.
 use Prim.Native.Nat.{ℕ, _≤_, _<_, min, max}
 use mathlib.Core.Bool.{Bool, true, false, cond, _&&_, _||_}
-use mathlib.Core.Option.{none, some}
+use mathlib.Core.Option.{some}
 use mathlib.Core.Logic.{_⊎_, inl, inr, ⊎-elim, ⊎-map, _≢_}
 use mathlib.Core.Path.{_≡_, refl, sym, ap, _∙_}
 use mathlib.Core.List.{List, [], _∷_, List·Memᴰ·head, List·Memᴰ·tail, List·Memᴰ·not-nil}
@@ -13,8 +13,8 @@ use Rattle.lists.specs.Sums.{_∈_, apart}
 use Rattle.lists.specs.Choice.{all, all-elim, all-intro, leaders, leaders-elim, leaders-intro, smallest-elim, smallest-intro, largest, largest-elim, largest-intro, le-highest, highest-at}
 use Rattle.terms.specs.declared.orders.{Side.the-variants.Buy, Side.the-variants.Sell, Order.Order}
 use Rattle.price.specs.Interest.{demand, supply, executable, difference, interest-mono}
-use Rattle.price.specs.Candidates.{candidates, limits, mostExecutable, candidates-suffice}
-use Rattle.price.specs.Chain.{kept, settled, preferred, demandExceeds, supplyExceeds, auctionPrice, price-some, price-none}
+use Rattle.price.specs.Candidates.{candidates, limits, mostExecutable}
+use Rattle.price.specs.Chain.{kept, settled, preferred, demandExceeds, supplyExceeds, auctionPrice, price-some}
 use Rattle.price.specs.Search.{firstWeighed, joined, beats, ties, weighed, weighAll, foundIn, searchedIn}
 use Rattle.price.specs.declared.weigh.{Weighed.Weighed}
 use Rattle.price.specs.declared.search.{Found.Found}
@@ -287,6 +287,3 @@ module _ (reference : ℕ) (book : List Order) (demandAt supplyAt : ℕ → ℕ)
 
   pub searched-price : 0 < mostExecutable reference book → auctionPrice reference book ≡ some (searchedIn reference demandAt supplyAt bids asks .price)
   searched-price h = found-price after-all ends every h ∙ ap (λ (x : Found). some (x .price)) (sym searched-is)
-
-  pub searched-none : mostExecutable reference book ≡ 0 → auctionPrice reference book ≡ none
-  searched-none e = price-none reference book .1 (λ p. pinned _ _ (rw (← e) (candidates-suffice reference book p)) (omega arith))

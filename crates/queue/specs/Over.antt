@@ -1,10 +1,10 @@
 -- A list written over the front of another, one entry at a time.
-use Prim.Native.Nat.{ℕ, zero, suc, _+_, _≤_, _<_}
+use Prim.Native.Nat.{ℕ, zero, suc, _+_, _<_}
 use mathlib.Core.Path.{_≡_, refl, sym, ap, _∙_}
 use mathlib.Core.List.{List, [], _∷_, _++_, map}
 use native.Mathlib.Numerals.{add-one}
 use native.Mathlib.Omega.{arith}
-use lib.ListN.{length, getD, set, take, drop, length-append, length-drop}
+use lib.ListN.{length, getD, set, take, drop}
 use lib.Seq.{length-take-le, drop-cons, set-at, take-suc, take-all, append-snoc}
 
 module _ (l old : List ℕ) (i : ℕ) (il : i < length l) (io : i < length old) where
@@ -13,9 +13,6 @@ module _ (l old : List ℕ) (i : ℕ) (il : i < length l) (io : i < length old) 
       rw (drop-cons old i 0 io, add-one)
       (set-at (take i l) (getD old i 0) (drop (suc i) old) (getD l i 0) i (length-take-le i l (omega arith))
       ∙ sym (ap (λ t. t ++ drop (suc i) old) (take-suc l i 0 il) ∙ append-snoc (take i l) _ (drop (suc i) old)))
-
-pub over-length : (l old : List ℕ) (i : ℕ) → i ≤ length l → i ≤ length old → length (take i l ++ drop i old) ≡ length old
-over-length l old i h k = simp (length-append, length-drop) (omega (arith, length-take-le i l h))
 
 pub over-all : (l old : List ℕ) (i : ℕ) → i ≡ length l → take i l ++ drop i old ≡ l ++ drop (length l) old
 over-all l old i e = rw e (ap (λ t. t ++ drop (length l) old) (take-all (length l) l (omega arith)))

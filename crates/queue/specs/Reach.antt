@@ -1,20 +1,19 @@
 -- What the resting orders of a sound book have: the premises of rank and of demand 3.
-use Prim.Native.Nat.{ℕ, zero, suc, _^_, _≤_, _<_}
+use Prim.Native.Nat.{ℕ, zero, suc, _≤_, _<_}
 use mathlib.Core.Bool.{Bool, true, false, cond}
 use mathlib.Core.Path.{_≡_, refl, sym, ap, _∙_}
 use mathlib.Core.List.{[], _∷_, _++_, append-nil}
-use native.Mathlib.Nat.{mul-le-mul-right}
 use native.Mathlib.Omega.{arith}
 use lib.Dec.{leb}
 use Rattle.lists.specs.Tests.{tests, and-both}
-use Rattle.lists.specs.Sums.{_∈_, sum, sum-bound}
+use Rattle.lists.specs.Sums.{_∈_}
 use Rattle.terms.specs.Bounds.{places, minQuantity, maxQuantity}
 use Rattle.terms.specs.declared.orders.{Order.Order}
 use Rattle.book.specs.declared.Book.{Book}
 use Rattle.book.specs.Places.{isTaken}
 use Rattle.book.specs.Columns.{orderAt}
 use Rattle.book.specs.Resting.{restingTo, resting}
-use Rattle.book.specs.Rests.{resting-elim, resting-length}
+use Rattle.book.specs.Rests.{resting-elim}
 use Rattle.book.specs.Sound.{SoundOrder, SoundBook}
 use Rattle.queue.specs.Distinct.{Distinct, distinct-snoc}
 
@@ -46,9 +45,3 @@ module _ (step given : ℕ) (b : Book) (sound : SoundBook step given b) where
 
   pub resting-live : (o : Order) → o ∈ resting b → 0 < o .left
   resting-live o m = quantity-of o m .0
-
-  -- no sum over them overflows 64 bits
-  pub resting-fits : sum (λ o. o .left) (resting b) < 2 ^ 64
-  resting-fits =
-      let few = mul-le-mul-right maxQuantity (resting-length b places) in
-      omega (arith, sum-bound (λ o. o .left) maxQuantity (resting b) (λ o m. quantity-of o m .1))

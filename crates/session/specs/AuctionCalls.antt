@@ -88,23 +88,23 @@ module _ (s : Session) (sound : Sound s) (a : Auction) where
       smaller Sell i = omega arith
 
   -- each outcome, as the code leaves it
-  pub traded-leaves : (price quantity count : ℕ) → outcomeOf s a ≡ Traded price quantity → count ≡ length (tradesBy s a quantity) → (list left : List ℕ)
+  traded-leaves : (price quantity count : ℕ) → outcomeOf s a ≡ Traded price quantity → count ≡ length (tradesBy s a quantity) → (list left : List ℕ)
       → left ≡ quadruples price (tradesBy s a quantity) ++ drop (4 * count) list
       → auctionLeaves (record { answer = 0; result = record { outcome = 1; price = price; quantity = quantity; count = count }; session = closedBy s a quantity price }) left ≡ auctionDone s a list
   traded-leaves price quantity count e c list left l =
       rw (e, l, c, by-ranks quantity, rests-in (s .parameters .step) (s .given) (s .book) (sound .book-sound) (sound .numbers-left) a price quantity (enough price quantity e))
 
-  pub no-trade-leaves : (price count : ℕ) → outcomeOf s a ≡ NoTrade → count ≡ length (tradesBy s a 0) → (list left : List ℕ)
+  no-trade-leaves : (price count : ℕ) → outcomeOf s a ≡ NoTrade → count ≡ length (tradesBy s a 0) → (list left : List ℕ)
       → left ≡ quadruples price (tradesBy s a 0) ++ drop (4 * count) list
       → auctionLeaves (record { answer = 0; result = record { outcome = 2; price = 0; quantity = 0; count = 0 }; session = closedBy s a 0 (s .reference) }) left ≡ auctionDone s a list
   no-trade-leaves price count e c list left l =
       rw (e, l, c, by-ranks 0, rests-in (s .parameters .step) (s .given) (s .book) (sound .book-sound) (sound .numbers-left) a price 0 (λ on. omega arith), trades-none (part s a))
 
-  pub non-opening-leaves : outcomeOf s a ≡ NonOpening → (list : List ℕ)
+  non-opening-leaves : outcomeOf s a ≡ NonOpening → (list : List ℕ)
       → auctionLeaves (record { answer = 0; result = record { outcome = 3; price = 0; quantity = 0; count = 0 }; session = s }) list ≡ auctionDone s a list
   non-opening-leaves e list = rw e
 
-  pub delayed-leaves : (price quantity : ℕ) → outcomeOf s a ≡ Delayed price quantity → (list : List ℕ)
+  delayed-leaves : (price quantity : ℕ) → outcomeOf s a ≡ Delayed price quantity → (list : List ℕ)
       → auctionLeaves (record {
         answer = 0;
         result = record { outcome = 4; price = price; quantity = quantity; count = 0 };

@@ -86,8 +86,8 @@ found-place s number member h = ltb-true (placeOf (isOf number member) (s .book)
 pub record Accepted (s : Session) (e : Entry) : Type 0 where
   pub in-range : T (isEntry e)
   pub running : T (hasStarted (s .phase))
-  pub on-step : T (not (offStep (s .parameters .step) (e .limit)))
-  pub number-left : s .given < maxNumber
+  on-step : T (not (offStep (s .parameters .step) (e .limit)))
+  number-left : s .given < maxNumber
   pub room : lowestFree (s .book .taken) < places
 
 pub accepted : (s : Session) (e : Entry) → firstHit (orderChecks s e) ≡ 0 → Accepted s e

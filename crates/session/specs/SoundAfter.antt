@@ -39,14 +39,14 @@ module _ (s : Session) (sound : Sound s) (running : T (hasStarted (s .phase))) (
   }
 
   -- the price of an outcome is a multiple of the step (B7)
-  pub traded-legal : (price quantity : ℕ) → outcomeOf s a ≡ Traded price quantity → T (isReference (s .parameters .step) price)
+  traded-legal : (price quantity : ℕ) → outcomeOf s a ≡ Traded price quantity → T (isReference (s .parameters .step) price)
   unfolding outcomeOf
   traded-legal price quantity e =
       price-legal (s .parameters .step) (s .reference) (part s a) (sound .reference-holds running)
       (λ o m. resting-sound (s .parameters .step) (s .given) (s .book) (sound .book-sound) o (takingPart-elim a (resting (s .book)) m .0) .legal)
       price (outcome-traded a (s .delayed) (s .parameters .threshold) (s .reference) (part s a) price quantity e .0)
 
-  pub after-sound : (o : Outcome) → outcomeOf s a ≡ o → Sound (sessionAfter s a (part s a) o)
+  after-sound : (o : Outcome) → outcomeOf s a ≡ o → Sound (sessionAfter s a (part s a) o)
   after-sound (Traded price quantity) e = closed-sound (trades (Traded price quantity) (part s a)) price (traded-legal price quantity e)
   after-sound NoTrade e = closed-sound (trades NoTrade (part s a)) (s .reference) (sound .reference-holds running)
   after-sound NonOpening e = sound

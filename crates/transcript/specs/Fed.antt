@@ -68,7 +68,7 @@ walk-read file place read e = ap (λ (r : Read). goOn r (λ next. walkFrom (leng
   go Read.Fault = refl
   go (Read.Record r next) = ap (after r) (sym (more-reads (length file) (suc (length file)) file next (omega arith) (omega arith)))
 
-pub lines-read : (s : Session) (answered : ℕ) (file : List ℕ) (place : ℕ) {read : Read} → recordAt file place ≡ read
+lines-read : (s : Session) (answered : ℕ) (file : List ℕ) (place : ℕ) {read : Read} → recordAt file place ≡ read
     → linesAt s answered file place ≡ readLines read s answered file
 unfolding linesFrom
 lines-read s answered file place {read} e = ap shown (walk-read file place read e) ∙ go read where
@@ -94,7 +94,7 @@ walk-moved (suc n) k file place =
     go later (Read.Record r next) = ap (after r) (later next)
 
 -- what is printed behind the first k bytes is what the rest prints
-pub lines-moved : (s : Session) (answered : ℕ) (file : List ℕ) (k : ℕ) → linesAt s answered file k ≡ linesAt s answered (drop k file) 0
+lines-moved : (s : Session) (answered : ℕ) (file : List ℕ) (k : ℕ) → linesAt s answered file k ≡ linesAt s answered (drop k file) 0
 lines-moved s answered file k =
     let l = length-drop k file in
     let z : k + 0 ≡ k = omega arith in
@@ -191,7 +191,7 @@ told-says room ended bytes s answered more none =
     tell-says room ended bytes more none (suc (length bytes)) (record { session = s; answered = answered; place = 0; text = [] }) (omega arith)
 
 -- it waits only for bytes that are to come
-pub told-waits : (room : ℕ) (ended : Bool) (bytes : List ℕ) (s : Session) (answered : ℕ) → recordsTold room ended bytes s answered .stop ≡ Stop.Waits → ended ≡ false
+told-waits : (room : ℕ) (ended : Bool) (bytes : List ℕ) (s : Session) (answered : ℕ) → recordsTold room ended bytes s answered .stop ≡ Stop.Waits → ended ≡ false
 told-waits room ended bytes s answered =
     tell-ends room ended bytes (λ u. Unit {0}) (λ h. h .stop ≡ Stop.Waits → ended ≡ false) (λ u r next g e. tt)
     (λ u why g e w. front-reads bytes [] (u .place) ended (room - length (u .text)) (λ x. refl) (e ∙ ap Front.Stop w))
@@ -199,7 +199,7 @@ told-waits room ended bytes s answered =
     (suc (length bytes)) (record { session = s; answered = answered; place = 0; text = [] }) tt
 
 -- with room for a record's lines it is full only behind a record
-pub told-headway : (room : ℕ) (ended : Bool) (bytes : List ℕ) (s : Session) (answered : ℕ) → recordRoom ≤ room
+told-headway : (room : ℕ) (ended : Bool) (bytes : List ℕ) (s : Session) (answered : ℕ) → recordRoom ≤ room
     → recordsTold room ended bytes s answered .stop ≡ Stop.Full → 0 < recordsTold room ended bytes s answered .standing .place
 unfolding tellFrom
 told-headway room ended bytes s answered h = go (front bytes 0 ended (room - 0)) refl where
@@ -220,7 +220,7 @@ told-headway room ended bytes s answered h = go (front bytes 0 ended (room - 0))
       absurd (omega arith)
 
 -- what was written from the front on is read back
-pub text-back : (out text : List ℕ) → take (length text) (put out 0 text) ≡ text
+text-back : (out text : List ℕ) → take (length text) (put out 0 text) ≡ text
 unfolding put
 text-back out text = take-append-seam text (drop (0 + length text) out)
 

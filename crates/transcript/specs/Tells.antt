@@ -66,7 +66,7 @@ unfolding tellFrom
 tell-turn n room ended bytes t e = ap (λ (f : Front). goTell f t (tellFrom n room ended bytes)) e
 
 -- where as many turns are allowed as bytes are left and one more, further turns change nothing
-pub tell-suffices : (n more room : ℕ) (ended : Bool) (bytes : List ℕ) (t : Standing) → length bytes ≤ t .place + n
+tell-suffices : (n more room : ℕ) (ended : Bool) (bytes : List ℕ) (t : Standing) → length bytes ≤ t .place + n
     → tellFrom (more + suc n) room ended bytes t ≡ tellFrom (suc n) room ended bytes t
 tell-suffices zero more room ended bytes t h = rw e (go (front bytes (t .place) ended (room - length (t .text))) refl) where
   e : more + 1 ≡ suc more

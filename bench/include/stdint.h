@@ -1,0 +1,6 @@
+// What the C programs of make bench take of the C library, declared: the kit has the x86-64 library and no headers.
+typedef __UINT8_TYPE__ uint8_t;
+typedef __UINT16_TYPE__ uint16_t;
+typedef __UINT32_TYPE__ uint32_t;
+typedef __UINT64_TYPE__ uint64_t;
+#define UINT64_MAX __UINT64_MAX__

@@ -1,0 +1,78 @@
+//! Makes a file on which the two programs differ as small as a bounded number of tries gets it.
+
+use crate::records::{fields, walk, Record};
+use std::time::{Duration, Instant};
+
+const TRIES: u32 = 1_000;
+/// For the longest files, and for a program that hangs.
+const TIME: Duration = Duration::from_secs(120);
+
+struct Shrink<'a> {
+    differs: &'a dyn Fn(&[u8]) -> bool,
+    tries: u32,
+    begun: Instant,
+}
+
+fn packed(records: &[Record], rest: &[u8]) -> Vec<u8> {
+    let mut file = Vec::new();
+    records.iter().for_each(|record| record.pack(&mut file));
+    file.extend(rest);
+    file
+}
+
+/// The smallest file found for which `differs` still says yes.
+pub fn shrink(file: &[u8], differs: &dyn Fn(&[u8]) -> bool) -> Vec<u8> {
+    let mut shrink = Shrink { differs, tries: 0, begun: Instant::now() };
+    let (mut records, rest) = walk(file);
+    shrink.drop_runs(&mut records, |records| packed(records, rest));
+    for place in 0..records.len() {
+        for field in 0..fields(records[place].kind).len() {
+            shrink.lower(&mut records, place, field, rest);
+        }
+    }
+    let mut bytes = packed(&records, rest);
+    shrink.drop_runs(&mut bytes, |bytes| bytes.to_vec());
+    bytes
+}
+
+impl Shrink<'_> {
+    fn differs(&mut self, file: &[u8]) -> bool {
+        self.tries += 1;
+        self.tries <= TRIES && self.begun.elapsed() < TIME && (self.differs)(file)
+    }
+
+    /// Leaves out runs of parts, shorter and shorter; single ones until each is needed.
+    fn drop_runs<T: Clone>(&mut self, parts: &mut Vec<T>, file: impl Fn(&[T]) -> Vec<u8>) {
+        let mut run = parts.len();
+        while run > 0 {
+            let (before, mut from) = (parts.len(), 0);
+            while from < parts.len() {
+                let to = parts.len().min(from + run);
+                let fewer = [&parts[..from], &parts[to..]].concat();
+                if self.differs(&file(&fewer)) {
+                    *parts = fewer;
+                } else {
+                    from = to;
+                }
+            }
+            if run > 1 || parts.len() == before {
+                run /= 2;
+            }
+        }
+    }
+
+    /// Lowers a field to 1 if that will do, else by less and less.
+    fn lower(&mut self, records: &mut [Record], place: usize, field: usize, rest: &[u8]) {
+        let mut by = records[place].values[field].saturating_sub(1);
+        while by > 0 {
+            let value = records[place].values[field];
+            if value > by {
+                records[place].values[field] = value - by;
+                if !self.differs(&packed(records, rest)) {
+                    records[place].values[field] = value;
+                }
+            }
+            by /= 2;
+        }
+    }
+}

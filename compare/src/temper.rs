@@ -1,0 +1,492 @@
+//! Session files by seed, each of a temperament: a kind of trouble. A seed has the same bytes on
+//! every machine.
+
+use crate::records::*;
+use std::ops::RangeInclusive;
+
+/// The splitmix64 sequence.
+struct Dice(u64);
+
+impl Dice {
+    fn roll(&mut self) -> u64 {
+        self.0 = self.0.wrapping_add(0x9E37_79B9_7F4A_7C15);
+        let mixed = (self.0 ^ self.0 >> 30).wrapping_mul(0xBF58_476D_1CE4_E5B9);
+        let mixed = (mixed ^ mixed >> 27).wrapping_mul(0x94D0_49BB_1331_11EB);
+        mixed ^ mixed >> 31
+    }
+
+    fn within(&mut self, range: RangeInclusive<u64>) -> u64 {
+        range.start() + self.roll() % (range.end() - range.start() + 1)
+    }
+
+    fn one_of<T: Copy>(&mut self, list: &[T]) -> T {
+        list[self.within(0..=list.len() as u64 - 1) as usize]
+    }
+
+    fn once_in(&mut self, times: u64) -> bool {
+        self.within(1..=times) == 1
+    }
+
+    /// A number, one less or one more.
+    fn about(&mut self, number: u64) -> u64 {
+        self.within(number.saturating_sub(1)..=number + 1)
+    }
+}
+
+/// A file that grows, and the terms that its start record has.
+struct Maker {
+    dice: Dice,
+    file: Vec<u8>,
+    step: u64,
+    reference: u64,
+    factor: u64,
+    threshold: u64,
+    maximum: u64,
+    /// Orders so far: if none was refused, the last number given.
+    orders: u64,
+}
+
+type Temper = fn(&mut Maker);
+
+const TEMPERS: [(&str, Temper); 17] = [
+    ("crossing books", crossing),
+    ("ties", ties),
+    ("both sides unlimited", both_unlimited),
+    ("at-the-close orders", at_the_close),
+    ("Non Opening", non_opening),
+    ("Delayed Opening", delayed_opening),
+    ("full books", full_books),
+    ("reused places", reused_places),
+    ("prices at the collar", collar),
+    ("values at the maximum", values),
+    ("bad fields", bad_fields),
+    ("wrong phases", wrong_phases),
+    ("two sessions", two_sessions),
+    ("cut", cut),
+    ("damaged", damaged),
+    ("random bytes", random_bytes),
+    ("far over 64 KiB", far),
+];
+/// The first so many make good files, for others to cut, to damage and to put together.
+const GOOD: u64 = 10;
+
+/// The name of a seed's temperament, and its file. Seed 0 is the one that gives its last number.
+pub fn session_file(seed: u64) -> (&'static str, Vec<u8>) {
+    let [step, reference, factor, threshold, maximum] = [100, 100_000, 9, 150, VALUE_MAX];
+    let (dice, file, orders) = (Dice(seed), Vec::new(), 0);
+    let mut maker = Maker { dice, file, step, reference, factor, threshold, maximum, orders };
+    let (name, temper) = match seed {
+        0 => ("the last number", last_number as Temper),
+        _ => TEMPERS[(seed as usize - 1) % TEMPERS.len()],
+    };
+    if seed > 0 && maker.dice.once_in(2) {
+        maker.other_terms();
+    }
+    temper(&mut maker);
+    (name, maker.file)
+}
+
+/// Members go by order numbers, so that a deletion can name the right one.
+fn member(number: u64) -> u64 {
+    1 + number % 3
+}
+
+impl Maker {
+    fn other_terms(&mut self) {
+        let step = self.dice.within(1..=STEP_MAX);
+        self.step = self.dice.one_of(&[1, 1, 5, 100, 100, STEP_MAX, step]);
+        let most = PRICE_MAX / self.step;
+        let steps = self.dice.within(1..=most);
+        let steps = self.dice.one_of(&[steps, steps, most, most.min(1_000), most.min(3)]);
+        self.reference = self.step * steps;
+        let factor = self.dice.within(FACTOR.0..=FACTOR.1);
+        self.factor = self.dice.one_of(&[9, factor, FACTOR.0, FACTOR.1]);
+        let threshold = self.dice.within(1..=THRESHOLD_MAX);
+        self.threshold = self.dice.one_of(&[1, 150, threshold, THRESHOLD_MAX]);
+    }
+
+    fn put(&mut self, kind: usize, values: [u64; 5]) {
+        Record { kind, values }.pack(&mut self.file);
+    }
+
+    fn start(&mut self) {
+        let terms = [self.step, self.reference, self.factor, self.threshold, self.maximum];
+        self.put(START, terms);
+    }
+
+    fn order(&mut self, side: u64, validity: u64, quantity: u64, limit: u64) {
+        self.orders += 1;
+        self.put(ORDER, [member(self.orders), side, validity, quantity, limit]);
+    }
+
+    fn delete(&mut self, number: u64) {
+        self.put(DELETE, [number, member(number), 0, 0, 0]);
+    }
+
+    fn auction(&mut self, which: u64) {
+        self.put(AUCTION, [which, 0, 0, 0, 0]);
+    }
+
+    /// Asked again, an opening gets over the delay.
+    fn opening(&mut self) {
+        self.auction(OPENING);
+        self.auction(OPENING);
+    }
+
+    fn side(&mut self) -> u64 {
+        self.dice.one_of(&[BUY, SELL])
+    }
+
+    fn quantity(&mut self) -> u64 {
+        let most = self.dice.one_of(&[3, 100, 100, 10_000, QUANTITY_MAX]);
+        self.dice.within(1..=most)
+    }
+
+    /// A good limit, at most so many steps from the reference price.
+    fn near(&mut self, steps: u64) -> u64 {
+        let away = self.step * self.dice.within(0..=steps);
+        let lower = self.reference.saturating_sub(away).max(self.step);
+        let higher = (self.reference + away).min(PRICE_MAX / self.step * self.step);
+        self.dice.one_of(&[lower, higher])
+    }
+
+    fn any_orders(&mut self, count: RangeInclusive<u64>, steps: u64) {
+        for _ in 0..self.dice.within(count) {
+            let (side, quantity, limit) = (self.side(), self.quantity(), self.near(steps));
+            let limit = if self.dice.once_in(16) { UNLIMITED } else { limit };
+            let validity = self.dice.one_of(&[DAY, DAY, TILL_LATER, AT_THE_OPENING, AT_THE_CLOSE]);
+            self.order(side, validity, quantity, limit);
+        }
+    }
+
+    /// Orders that would suit another session: off the step, out of the collar, too large.
+    fn misfits(&mut self, count: RangeInclusive<u64>) {
+        let terms = (self.step, self.reference, self.factor, self.threshold);
+        self.other_terms();
+        self.any_orders(count, 10);
+        (self.step, self.reference, self.factor, self.threshold) = terms;
+    }
+
+    /// Deletions of orders that may be gone, now and then by another member.
+    fn any_deletions(&mut self, count: RangeInclusive<u64>) {
+        for _ in 0..self.dice.within(count) {
+            let number = self.dice.within(1..=self.orders + 1);
+            let by = number + u64::from(self.dice.once_in(8));
+            self.put(DELETE, [number, member(by), 0, 0, 0]);
+        }
+    }
+
+    fn good_file(&mut self) {
+        let (_, temper) = TEMPERS[self.dice.within(0..=GOOD - 1) as usize];
+        temper(self);
+    }
+}
+
+fn crossing(maker: &mut Maker) {
+    let steps = maker.dice.one_of(&[2, 10, 100]);
+    maker.start();
+    maker.any_orders(2..=120, steps);
+    maker.opening();
+    maker.any_orders(0..=60, steps);
+    maker.any_deletions(0..=20);
+    maker.auction(CLOSING);
+    maker.any_deletions(0..=20);
+    maker.misfits(0..=5);
+}
+
+/// Few prices and few quantities, mostly the same on both sides.
+fn ties(maker: &mut Maker) {
+    let unit = maker.dice.within(1..=50);
+    maker.start();
+    for auction in [OPENING, OPENING, CLOSING] {
+        for _ in 0..maker.dice.within(1..=3) {
+            let (middle, away) = (maker.near(3), maker.step * maker.dice.within(0..=2));
+            let (buy, sell) = (middle + away, middle.saturating_sub(away).max(maker.step));
+            let quantity = unit * maker.dice.within(1..=2);
+            let against = maker.dice.one_of(&[quantity, quantity, unit]);
+            maker.order(BUY, DAY, quantity, buy);
+            maker.order(SELL, DAY, against, sell);
+            if maker.dice.once_in(2) {
+                // The same on either side as in P9: demand exceeds at one end, supply at the other.
+                maker.order(BUY, DAY, unit, sell);
+                maker.order(SELL, DAY, unit, buy);
+            }
+        }
+        maker.auction(auction);
+    }
+}
+
+fn both_unlimited(maker: &mut Maker) {
+    maker.start();
+    for auction in [OPENING, OPENING, CLOSING] {
+        for _ in 0..maker.dice.within(1..=3) {
+            let quantity = maker.dice.within(2..=1_000);
+            let against = maker.dice.about(quantity);
+            let against = maker.dice.one_of(&[quantity, quantity, quantity, against]);
+            maker.order(BUY, DAY, quantity, UNLIMITED);
+            maker.order(SELL, DAY, against, UNLIMITED);
+        }
+        maker.any_orders(0..=3, 3);
+        maker.auction(auction);
+    }
+}
+
+fn at_the_close(maker: &mut Maker) {
+    maker.start();
+    for auction in [OPENING, OPENING, CLOSING] {
+        for _ in 0..maker.dice.within(1..=10) {
+            let (side, quantity, limit) = (maker.side(), maker.quantity(), maker.near(3));
+            let limit = maker.dice.one_of(&[limit, UNLIMITED]);
+            let others = if limit == UNLIMITED { AT_THE_CLOSE } else { DAY };
+            let validity = maker.dice.one_of(&[AT_THE_CLOSE, others]);
+            maker.order(side, validity, quantity, limit);
+        }
+        maker.auction(auction);
+    }
+}
+
+/// An unlimited quantity about as large as what is executable, and orders that may mend it.
+fn non_opening(maker: &mut Maker) {
+    let (side, quantity, limit) = (maker.side(), maker.dice.within(2..=1_000), maker.near(20));
+    let (other, unlimited) = (BUY + SELL - side, maker.dice.about(quantity));
+    maker.start();
+    maker.order(other, DAY, 1, limit);
+    maker.order(other, TILL_LATER, quantity - 1, limit);
+    maker.order(side, AT_THE_OPENING, unlimited, UNLIMITED);
+    let aside = maker.side();
+    maker.order(aside, AT_THE_CLOSE, 5, UNLIMITED);
+    maker.auction(OPENING);
+    let validity = maker.dice.one_of(&[DAY, AT_THE_CLOSE]);
+    maker.order(other, validity, 1, limit);
+    maker.opening();
+    maker.any_deletions(1..=3);
+    maker.opening();
+    maker.auction(CLOSING);
+}
+
+/// A price about as far from the reference price as the threshold, at times with Non Opening.
+fn delayed_opening(maker: &mut Maker) {
+    maker.step = maker.dice.one_of(&[1, 10, 100]);
+    maker.reference = 10_000 * maker.dice.within(1..=1_000);
+    maker.factor = FACTOR.1;
+    maker.start();
+    let least = (maker.threshold * maker.reference).div_ceil(10_000 * maker.step);
+    let away = maker.dice.about(least) * maker.step;
+    let below = maker.reference.saturating_sub(away);
+    let limit = maker.dice.one_of(&[below, maker.reference + away]);
+    for _ in 0..2 {
+        let (quantity, side) = (maker.dice.within(2..=100), maker.side());
+        maker.order(BUY, DAY, quantity, limit);
+        maker.order(SELL, DAY, quantity, limit);
+        if maker.dice.once_in(3) {
+            let unlimited = maker.dice.about(quantity);
+            maker.order(side, DAY, unlimited, UNLIMITED);
+        }
+        maker.opening();
+        maker.any_deletions(0..=3);
+    }
+    maker.opening();
+    maker.auction(CLOSING);
+}
+
+/// More orders than places; or as many trades as there can be; or a book that stays full.
+fn full_books(maker: &mut Maker) {
+    let (side, steps) = (maker.side(), maker.dice.within(0..=40));
+    maker.start();
+    if maker.dice.once_in(2) {
+        maker.any_orders(PLACES - 1..=PLACES + 5, steps);
+    } else {
+        if maker.dice.once_in(2) {
+            maker.order(side, DAY, PLACES - 1, maker.reference);
+        }
+        for _ in 0..PLACES {
+            maker.order(BUY + SELL - side, TILL_LATER, 1, maker.reference);
+        }
+    }
+    for auction in [OPENING, OPENING, CLOSING] {
+        maker.misfits(0..=5);
+        maker.any_deletions(0..=3);
+        maker.any_orders(0..=5, steps);
+        maker.auction(auction);
+    }
+    maker.misfits(0..=5);
+}
+
+/// At one limit the rank goes by the number alone, whatever place an order got.
+fn reused_places(maker: &mut Maker) {
+    let steps = maker.dice.within(0..=1);
+    maker.start();
+    for auction in [OPENING, OPENING, CLOSING] {
+        for _ in 0..maker.dice.within(1..=6) {
+            maker.any_orders(1..=20, steps);
+            maker.any_deletions(1..=20);
+        }
+        maker.auction(auction);
+    }
+}
+
+/// Limits at both ends, a step inside and a step outside; then the same at a new reference price.
+fn collar(maker: &mut Maker) {
+    let unit = maker.step * maker.factor;
+    if unit <= PRICE_MAX && maker.dice.once_in(2) {
+        // So that a limit times the factor can be the reference price.
+        maker.reference = unit * maker.dice.within(1..=PRICE_MAX / unit).min(1_000);
+    }
+    // The large ones are refused by 7 too, but by 6 first.
+    maker.maximum = 2_000 * maker.reference * maker.factor;
+    maker.start();
+    for auction in [OPENING, OPENING, CLOSING] {
+        for _ in 0..12 {
+            let (low, high) = (maker.reference / unit, maker.reference * maker.factor / maker.step);
+            let end = maker.dice.one_of(&[low, high]);
+            let limit = maker.dice.about(end) * maker.step + u64::from(maker.dice.once_in(9));
+            let (side, quantity) = (maker.side(), maker.dice.one_of(&[1, 1, 1, 5_000]));
+            maker.order(side, TILL_LATER, quantity, limit);
+        }
+        // Enough to outweigh the others.
+        let price = maker.near(100);
+        maker.order(BUY, DAY, 1_000, price);
+        maker.order(SELL, DAY, 1_000, price);
+        maker.auction(auction);
+        maker.reference = price;
+    }
+}
+
+/// Quantity times limit, or times the reference price, about the maximum order value.
+fn values(maker: &mut Maker) {
+    if maker.dice.once_in(4) {
+        (maker.step, maker.reference) = (1, PRICE_MAX);
+    }
+    let (price, quantity) = (maker.near(50), maker.dice.within(1..=QUANTITY_MAX));
+    let quantity = maker.dice.one_of(&[quantity, QUANTITY_MAX]);
+    let value = quantity * maker.dice.one_of(&[price, maker.reference]);
+    maker.maximum = maker.dice.about(value).clamp(1, VALUE_MAX);
+    maker.start();
+    for auction in [OPENING, OPENING, CLOSING] {
+        for _ in 0..16 {
+            let (limit, side) = (maker.near(50), maker.side());
+            let limit = maker.dice.one_of(&[limit, limit, price, UNLIMITED]);
+            let fits = maker.maximum / maker.dice.one_of(&[limit.max(1), maker.reference]);
+            let quantity = maker.dice.one_of(&[quantity, fits]);
+            let quantity = maker.dice.about(quantity).clamp(1, QUANTITY_MAX);
+            maker.order(side, TILL_LATER, quantity, limit);
+        }
+        maker.auction(auction);
+    }
+}
+
+/// Each field of each kind bad or at an end, in any order and so in any phase.
+fn bad_fields(maker: &mut Maker) {
+    let (price, mut records) = (maker.near(2), Vec::new());
+    for (kind, values) in [
+        (START, [maker.step, maker.reference, maker.factor, maker.threshold, maker.maximum]),
+        (ORDER, [1, BUY, DAY, 10, price]),
+        (DELETE, [1, 1, 0, 0, 0]),
+        (AUCTION, [OPENING, 0, 0, 0, 0]),
+    ] {
+        for (field, (_, most)) in fields(kind).iter().enumerate() {
+            for value in [0, 1, values[field], values[field] + 1, *most, most + 1, u64::MAX] {
+                records.push(Record { kind, values });
+                records.last_mut().expect("just put").values[field] = value;
+            }
+        }
+    }
+    // Half of the files start at once, or few would get far.
+    if maker.dice.once_in(2) {
+        maker.start();
+    }
+    while !records.is_empty() {
+        let next = maker.dice.within(0..=records.len() as u64 - 1);
+        records.swap_remove(next as usize).pack(&mut maker.file);
+    }
+}
+
+fn wrong_phases(maker: &mut Maker) {
+    for _ in 0..maker.dice.within(10..=60) {
+        match maker.dice.within(0..=9) {
+            0 => maker.start(),
+            1 => maker.auction(OPENING),
+            2 => maker.auction(CLOSING),
+            3 | 4 => maker.any_deletions(1..=1),
+            5 => maker.misfits(1..=1),
+            _ => maker.any_orders(1..=1, 2),
+        }
+    }
+}
+
+fn two_sessions(maker: &mut Maker) {
+    maker.good_file();
+    maker.good_file();
+}
+
+fn cut(maker: &mut Maker) {
+    maker.good_file();
+    let left = maker.dice.within(0..=maker.file.len() as u64);
+    maker.file.truncate(left as usize);
+}
+
+fn damaged(maker: &mut Maker) {
+    maker.good_file();
+    for _ in 0..maker.dice.within(1..=8) {
+        let place = maker.dice.within(0..=maker.file.len() as u64 - 1);
+        maker.file[place as usize] ^= maker.dice.within(1..=255) as u8;
+    }
+}
+
+/// Random bytes and nothing else, or good records with random values and few such bytes.
+fn random_bytes(maker: &mut Maker) {
+    let alone = maker.dice.once_in(3);
+    for _ in 0..maker.dice.within(0..=60) {
+        if alone || maker.dice.once_in(40) {
+            maker.file.push(maker.dice.roll() as u8);
+        } else {
+            let bits = maker.dice.one_of(&[2, 8, 20, 64]);
+            let values = [0; 5].map(|_: u64| maker.dice.roll() >> (64 - bits));
+            let kind = maker.dice.within(1..=4) as usize;
+            maker.put(kind, values);
+        }
+    }
+}
+
+/// Up to a megabyte, the opening anywhere in it, and some with the last record cut.
+fn far(maker: &mut Maker) {
+    let most = maker.dice.one_of(&[100_000, 150_000, 300_000, 1_000_000]);
+    let length = maker.dice.within(71_680..=most) as usize;
+    let opening = maker.dice.within(0..=most) as usize;
+    maker.start();
+    while maker.file.len() < length {
+        let before = maker.file.len();
+        let (side, quantity, limit) = (maker.side(), maker.quantity(), maker.near(50));
+        maker.order(side, DAY, quantity, limit);
+        // Most are deleted at once; what rests will fill the longest files' books.
+        if !maker.dice.once_in(64) {
+            maker.delete(maker.orders);
+        }
+        if before <= opening && maker.file.len() > opening {
+            maker.opening();
+        }
+    }
+    maker.opening();
+    maker.auction(CLOSING);
+    maker.any_orders(0..=20, 50);
+    let left = maker.file.len() as u64 - maker.dice.within(0..=3);
+    maker.file.truncate(left as usize);
+}
+
+/// All numbers are given and the last 512 orders rest: refusal 9 comes before 10, and neither a
+/// deletion nor an auction gives a number back.
+fn last_number(maker: &mut Maker) {
+    maker.start();
+    for number in 1..=NUMBER_MAX {
+        maker.order(BUY + number % 2, DAY, 1 + number % 7, maker.reference);
+        if number <= NUMBER_MAX - PLACES {
+            maker.delete(number);
+        }
+    }
+    maker.any_orders(2..=2, 1);
+    maker.delete(NUMBER_MAX);
+    maker.any_orders(2..=2, 1);
+    maker.opening();
+    maker.any_orders(2..=2, 1);
+    maker.auction(CLOSING);
+}

@@ -1,0 +1,451 @@
+//! Reads a session file on standard input and prints what happened, by the rules of 01.
+//! Comments cite the sections of 01. Every number is a u64: the largest products are near
+//! 10^15 and the largest sum is that of 512 quantities, so nothing overflows.
+
+use std::cmp::{min, Ordering};
+use std::io::{self, Read, Write};
+use std::ops::RangeInclusive;
+
+#[cfg(test)]
+mod tests;
+
+// "Numbers and their bounds".
+const PRICE: RangeInclusive<u64> = 1..=100_000_000;
+const QUANTITY: RangeInclusive<u64> = 1..=10_000_000;
+const STEP: RangeInclusive<u64> = 1..=1_000_000;
+const FACTOR: RangeInclusive<u64> = 2..=999;
+const THRESHOLD: RangeInclusive<u64> = 1..=9_999;
+const MAXIMUM_VALUE: RangeInclusive<u64> = 1..=1_000_000_000_000_000;
+const MEMBER: RangeInclusive<u64> = 1..=65_535;
+const ORDER_NUMBER: RangeInclusive<u64> = 1..=1_000_000;
+const VALIDITY: RangeInclusive<u64> = 1..=4;
+const PLACES: usize = 512;
+
+// The validities that a rule names; 4, till a later day, is named by none.
+const AT_THE_OPENING: u64 = 1;
+const AT_THE_CLOSE: u64 = 2;
+const DAY: u64 = 3;
+
+// "Outcomes".
+const TRADES: u64 = 1;
+const NO_TRADES: u64 = 2;
+const NON_OPENING: u64 = 3;
+const DELAYED_OPENING: u64 = 4;
+
+#[derive(Clone, Copy, PartialEq)]
+enum Side {
+    Buy,
+    Sell,
+}
+
+#[derive(Clone, Copy, PartialEq)]
+enum Limit {
+    Unlimited,
+    Price(u64),
+}
+
+#[derive(Clone, Copy)]
+struct Order {
+    number: u64,
+    member: u64,
+    side: Side,
+    validity: u64,
+    open: u64,
+    limit: Limit,
+}
+
+#[derive(Clone, Copy, PartialEq)]
+enum Phase {
+    Fresh,
+    PreOpening,
+    Day,
+    Closed,
+}
+
+#[derive(Clone, Copy, PartialEq)]
+enum Auction {
+    Opening,
+    Closing,
+}
+
+struct Trade {
+    buy: u64,
+    sell: u64,
+    quantity: u64,
+}
+
+/// What an auction answers; the count of trades is the length of the list.
+struct Answer {
+    outcome: u64,
+    price: u64,
+    quantity: u64,
+    trades: Vec<Trade>,
+}
+
+/// A number of "Refusals by number".
+type Refusal = u64;
+
+/// One check of "Order of checks": with `?` behind each, the first hit answers.
+fn refuse(number: Refusal, hit: bool) -> Result<(), Refusal> {
+    if hit {
+        Err(number)
+    } else {
+        Ok(())
+    }
+}
+
+struct Session {
+    phase: Phase,
+    step: u64,
+    reference: u64,
+    factor: u64,
+    threshold: u64,
+    maximum: u64,
+    delay_spent: bool,
+    numbers_given: u64,
+    book: Vec<Option<Order>>,
+}
+
+impl Session {
+    fn fresh() -> Session {
+        Session {
+            phase: Phase::Fresh,
+            step: 0,
+            reference: 0,
+            factor: 0,
+            threshold: 0,
+            maximum: 0,
+            delay_spent: false,
+            numbers_given: 0,
+            book: vec![None; PLACES],
+        }
+    }
+
+    /// "Order of checks", start: 1, 3.
+    fn start(&mut self, fields: [u64; 5]) -> Result<(), Refusal> {
+        let [step, reference, factor, threshold, maximum] = fields;
+        refuse(1, !STEP.contains(&step))?;
+        refuse(1, !PRICE.contains(&reference) || !reference.is_multiple_of(step))?;
+        refuse(1, !FACTOR.contains(&factor))?;
+        refuse(1, !THRESHOLD.contains(&threshold))?;
+        refuse(1, !MAXIMUM_VALUE.contains(&maximum))?;
+        refuse(3, self.phase != Phase::Fresh)?;
+        // "Phases": start leads to pre-opening.
+        self.phase = Phase::PreOpening;
+        (self.step, self.reference) = (step, reference);
+        (self.factor, self.threshold, self.maximum) = (factor, threshold, maximum);
+        Ok(())
+    }
+
+    /// "Order of checks", order: 1, 2, 4, 5, 6, 7, 8, 9, 10. Answers the number given.
+    fn order(&mut self, fields: [u64; 5]) -> Result<u64, Refusal> {
+        let [member, side, validity, quantity, limit] = fields;
+        refuse(1, !MEMBER.contains(&member))?;
+        let side = match side {
+            1 => Side::Buy,
+            2 => Side::Sell,
+            _ => return Err(1),
+        };
+        refuse(1, !VALIDITY.contains(&validity))?;
+        refuse(1, !QUANTITY.contains(&quantity))?;
+        // "Session file", kind 2: limit 0 means unlimited.
+        refuse(1, limit != 0 && !PRICE.contains(&limit))?;
+        let limit = if limit == 0 { Limit::Unlimited } else { Limit::Price(limit) };
+        refuse(2, self.phase == Phase::Fresh)?;
+        // Phase rules: orders are refused when closed; validity 1 only in pre-opening.
+        refuse(4, self.phase == Phase::Closed)?;
+        refuse(4, validity == AT_THE_OPENING && self.phase != Phase::PreOpening)?;
+        // An unlimited order skips 5, 6 and 7.
+        if let Limit::Price(limit) = limit {
+            refuse(5, !limit.is_multiple_of(self.step))?;
+            refuse(6, limit >= self.reference * self.factor)?;
+            refuse(6, limit * self.factor <= self.reference)?;
+            refuse(7, quantity * limit >= self.maximum)?;
+        }
+        refuse(8, quantity * self.reference >= self.maximum)?;
+        refuse(9, self.numbers_given == *ORDER_NUMBER.end())?;
+        // "Numbers and their bounds": an accepted order takes the lowest free place.
+        let place = self.book.iter_mut().find(|place| place.is_none()).ok_or(10u64)?;
+        self.numbers_given += 1;
+        let number = self.numbers_given;
+        *place = Some(Order { number, member, side, validity, open: quantity, limit });
+        Ok(number)
+    }
+
+    /// "Order of checks", delete: 1, 2, 11. Allowed in every started phase.
+    fn delete(&mut self, [number, member]: [u64; 2]) -> Result<(), Refusal> {
+        refuse(1, !ORDER_NUMBER.contains(&number))?;
+        refuse(1, !MEMBER.contains(&member))?;
+        refuse(2, self.phase == Phase::Fresh)?;
+        let wanted = |order: Order| order.number == number && order.member == member;
+        let place = self.book.iter_mut().find(|place| place.is_some_and(wanted)).ok_or(11u64)?;
+        *place = None;
+        Ok(())
+    }
+
+    /// "Order of checks", auction: 1, 2, 4. The list is always long enough here, so no 12.
+    fn auction(&mut self, [auction]: [u64; 1]) -> Result<Answer, Refusal> {
+        let auction = match auction {
+            1 => Auction::Opening,
+            2 => Auction::Closing,
+            _ => return Err(1),
+        };
+        refuse(2, self.phase == Phase::Fresh)?;
+        // Phase rules: an opening auction only in pre-opening, a closing auction only in day.
+        refuse(4, auction == Auction::Opening && self.phase != Phase::PreOpening)?;
+        refuse(4, auction == Auction::Closing && self.phase != Phase::Day)?;
+
+        let orders = self.taking_part(auction);
+        let found = find_price(&orders, self.reference);
+
+        if auction == Auction::Opening {
+            // "Outcomes": Non Opening comes before Delayed Opening; nothing changes.
+            let highest = found.map_or(0, |(_, executable)| executable);
+            if unlimited(&orders, Side::Buy) > highest || unlimited(&orders, Side::Sell) > highest {
+                return Ok(Answer { outcome: NON_OPENING, price: 0, quantity: 0, trades: vec![] });
+            }
+            // "Outcomes": Delayed Opening, "or more"; only the mark that it is spent changes.
+            let delays = |&(price, _): &(u64, u64)| {
+                !self.delay_spent
+                    && price.abs_diff(self.reference) * 10_000 >= self.threshold * self.reference
+            };
+            if let Some((price, quantity)) = found.filter(delays) {
+                self.delay_spent = true;
+                return Ok(Answer { outcome: DELAYED_OPENING, price, quantity, trades: vec![] });
+            }
+        }
+
+        let answer = match found {
+            Some((price, quantity)) => {
+                let trades = pair(&orders, quantity);
+                self.take_off(&trades);
+                self.reference = price;
+                Answer { outcome: TRADES, price, quantity, trades }
+            }
+            None => Answer { outcome: NO_TRADES, price: 0, quantity: 0, trades: vec![] },
+        };
+        // "Outcomes" 1 and 2: rests are deleted by validity; "Phases": the phase moves on.
+        let (deleted, next): (&[u64], Phase) = match auction {
+            Auction::Opening => (&[AT_THE_OPENING], Phase::Day),
+            Auction::Closing => (&[AT_THE_OPENING, AT_THE_CLOSE, DAY], Phase::Closed),
+        };
+        self.delete_rests(deleted);
+        self.phase = next;
+        Ok(answer)
+    }
+
+    /// "Who takes part": at the opening all but validity 2, at the closing all.
+    fn taking_part(&self, auction: Auction) -> Vec<Order> {
+        let mut orders: Vec<Order> = self.book.iter().flatten().copied().collect();
+        orders.retain(|order| auction == Auction::Closing || order.validity != AT_THE_CLOSE);
+        orders
+    }
+
+    /// "Outcomes" 1: traded quantities leave the book; the place of a filled order is free.
+    fn take_off(&mut self, trades: &[Trade]) {
+        for place in &mut self.book {
+            let Some(order) = place else { continue };
+            for trade in trades {
+                if order.number == trade.buy || order.number == trade.sell {
+                    order.open -= trade.quantity;
+                }
+            }
+            if order.open == 0 {
+                *place = None;
+            }
+        }
+    }
+
+    /// A place freed by a deletion is free at once, "Numbers and their bounds".
+    fn delete_rests(&mut self, validities: &[u64]) {
+        for place in &mut self.book {
+            if place.is_some_and(|order| validities.contains(&order.validity)) {
+                *place = None;
+            }
+        }
+    }
+}
+
+/// "At what rank": unlimited first, then the better price, then the lower number.
+fn rank(one: &Order, other: &Order) -> Ordering {
+    let by_limit = match (one.limit, other.limit) {
+        (Limit::Unlimited, Limit::Unlimited) => Ordering::Equal,
+        (Limit::Unlimited, Limit::Price(_)) => Ordering::Less,
+        (Limit::Price(_), Limit::Unlimited) => Ordering::Greater,
+        // Higher buys, lower sells; both orders are of one side.
+        (Limit::Price(p), Limit::Price(q)) if one.side == Side::Buy => q.cmp(&p),
+        (Limit::Price(p), Limit::Price(q)) => p.cmp(&q),
+    };
+    by_limit.then(one.number.cmp(&other.number))
+}
+
+/// The orders of one side, best first.
+fn queue(orders: &[Order], side: Side) -> Vec<Order> {
+    let mut queue = orders.to_vec();
+    queue.retain(|order| order.side == side);
+    queue.sort_by(rank);
+    queue
+}
+
+/// "The price": a candidate with demand and supply at it.
+struct Candidate {
+    price: u64,
+    demand: u64,
+    supply: u64,
+}
+
+impl Candidate {
+    fn weigh(orders: &[Order], price: u64) -> Candidate {
+        let (mut demand, mut supply) = (0, 0);
+        for order in orders {
+            match (order.side, order.limit) {
+                (Side::Buy, Limit::Unlimited) => demand += order.open,
+                (Side::Buy, Limit::Price(limit)) if limit >= price => demand += order.open,
+                (Side::Sell, Limit::Unlimited) => supply += order.open,
+                (Side::Sell, Limit::Price(limit)) if limit <= price => supply += order.open,
+                _ => {}
+            }
+        }
+        Candidate { price, demand, supply }
+    }
+
+    fn executable(&self) -> u64 {
+        min(self.demand, self.supply)
+    }
+
+    fn difference(&self) -> u64 {
+        self.demand.abs_diff(self.supply)
+    }
+}
+
+/// "The price" 1 to 4: the price and the highest executable quantity, or none if that is 0.
+fn find_price(orders: &[Order], reference: u64) -> Option<(u64, u64)> {
+    // Candidates are the reference price and the limits of the orders taking part.
+    let mut kept = vec![Candidate::weigh(orders, reference)];
+    for order in orders {
+        if let Limit::Price(limit) = order.limit {
+            kept.push(Candidate::weigh(orders, limit));
+        }
+    }
+    // 1. The highest executable quantity.
+    let highest = kept.iter().map(Candidate::executable).max()?;
+    if highest == 0 {
+        return None;
+    }
+    kept.retain(|at| at.executable() == highest);
+    // 2. The smallest difference.
+    let smallest = kept.iter().map(Candidate::difference).min()?;
+    kept.retain(|at| at.difference() == smallest);
+    let prices = kept.iter().map(|at| at.price);
+    let price = if kept.iter().all(|at| at.demand > at.supply) {
+        // 3. Demand exceeds supply at all of them.
+        prices.max()
+    } else if kept.iter().all(|at| at.supply > at.demand) {
+        // 3. Supply exceeds demand at all of them.
+        prices.min()
+    } else {
+        // 4. Two equally near would have the reference between them, which is then kept too.
+        prices.min_by_key(|price| price.abs_diff(reference))
+    };
+    Some((price?, highest))
+}
+
+/// "Outcomes" 3: the unlimited quantity taking part on a side.
+fn unlimited(orders: &[Order], side: Side) -> u64 {
+    let counted = |order: &&Order| order.side == side && order.limit == Limit::Unlimited;
+    orders.iter().filter(counted).map(|order| order.open).sum()
+}
+
+/// "Outcomes" 1: the trades pair the two queues from the front, up to the executable quantity.
+fn pair(orders: &[Order], executable: u64) -> Vec<Trade> {
+    let (mut buys, mut sells) = (queue(orders, Side::Buy), queue(orders, Side::Sell));
+    let mut trades = Vec::new();
+    let mut left = executable;
+    while left > 0 {
+        let (Some(buy), Some(sell)) = (buys.first_mut(), sells.first_mut()) else { break };
+        // The smaller of the two fronts; `left` never goes below it, as one side fills whole.
+        let quantity = min(left, min(buy.open, sell.open));
+        trades.push(Trade { buy: buy.number, sell: sell.number, quantity });
+        buy.open -= quantity;
+        sell.open -= quantity;
+        left -= quantity;
+        buys.retain(|order| order.open > 0);
+        sells.retain(|order| order.open > 0);
+    }
+    trades
+}
+
+/// "Session file": the little-endian number in these bytes, at most eight.
+fn number(bytes: &[u8]) -> u64 {
+    bytes.iter().rev().fold(0, |number, &byte| number << 8 | u64::from(byte))
+}
+
+/// The fields of the given sizes, from the front of the part; none if it is too short.
+fn fields<const N: usize>(mut part: &[u8], sizes: [usize; N]) -> Option<[u64; N]> {
+    let mut fields = [0; N];
+    for (field, size) in fields.iter_mut().zip(sizes) {
+        *field = number(part.get(..size)?);
+        part = part.get(size..)?;
+    }
+    Some(fields)
+}
+
+/// "Session file": what the first record prints after its place, and the file behind it.
+/// None for a record that ends the walk: unknown kind, a length not the kind's, or cut.
+fn answer<'a>(session: &mut Session, file: &'a [u8]) -> Option<(String, &'a [u8])> {
+    let (length, kind) = (number(file.get(0..2)?) as usize, number(file.get(2..4)?));
+    if !matches!((kind, length), (1, 24) | (2, 16) | (3, 10) | (4, 5)) {
+        return None;
+    }
+    // Fields are read from the part that starts at the record's fifth byte.
+    let part = file.get(4..length)?;
+    let lines = match kind {
+        1 => match session.start(fields(part, [4, 4, 2, 2, 8])?) {
+            Ok(()) => "start 0\n".to_string(),
+            Err(refusal) => format!("start {refusal}\n"),
+        },
+        2 => match session.order(fields(part, [2, 1, 1, 4, 4])?) {
+            Ok(number) => format!("order 0 {number}\n"),
+            Err(refusal) => format!("order {refusal} 0\n"),
+        },
+        3 => match session.delete(fields(part, [4, 2])?) {
+            Ok(()) => "delete 0\n".to_string(),
+            Err(refusal) => format!("delete {refusal}\n"),
+        },
+        _ => match session.auction(fields(part, [1])?) {
+            Ok(Answer { outcome, price, quantity, trades }) => {
+                let count = trades.len();
+                let mut lines = format!("auction 0 {outcome} {price} {quantity} {count}\n");
+                for Trade { buy, sell, quantity } in trades {
+                    lines += &format!("trade {buy} {sell} {quantity}\n");
+                }
+                lines
+            }
+            Err(refusal) => format!("auction {refusal} 0 0 0 0\n"),
+        },
+    };
+    Some((lines, file.get(length..)?))
+}
+
+/// "Session file": walks the records one by one; a fault ends the walk and isn't counted.
+fn run(file: &[u8]) -> String {
+    let mut session = Session::fresh();
+    let (mut lines, mut answered, mut rest) = (String::new(), 0u64, file);
+    while !rest.is_empty() {
+        let place = answered + 1;
+        let Some((text, behind)) = answer(&mut session, rest) else {
+            lines += &format!("{place} fault 1\n");
+            break;
+        };
+        lines += &format!("{place} {text}");
+        answered = place;
+        rest = behind;
+    }
+    lines + &format!("end {answered}\n")
+}
+
+fn main() -> io::Result<()> {
+    let mut file = Vec::new();
+    io::stdin().read_to_end(&mut file)?;
+    io::stdout().write_all(run(&file).as_bytes())
+}

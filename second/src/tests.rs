@@ -1,0 +1,594 @@
+//! Session files built in memory; the expected lines are worked out by hand from 01.
+
+use super::run;
+
+const BUY: u8 = 1;
+const SELL: u8 = 2;
+const OPENING: u8 = 1;
+const CLOSING: u8 = 2;
+const UNLIMITED: u32 = 0;
+
+fn record(kind: u16, fields: &[&[u8]]) -> Vec<u8> {
+    let fields = fields.concat();
+    let length = 4 + fields.len() as u16;
+    [&length.to_le_bytes()[..], &kind.to_le_bytes(), &fields].concat()
+}
+
+fn start_with(step: u32, reference: u32, factor: u16, threshold: u16, maximum: u64) -> Vec<u8> {
+    let (a, b, c) = (step.to_le_bytes(), reference.to_le_bytes(), factor.to_le_bytes());
+    record(1, &[&a, &b, &c, &threshold.to_le_bytes(), &maximum.to_le_bytes()])
+}
+
+/// The parameters of "Session file" and "Sums to check by hand".
+fn start() -> Vec<u8> {
+    start_with(100, 100_000, 9, 150, 1_000_000_000_000)
+}
+
+fn order_of(member: u16, side: u8, validity: u8, quantity: u32, limit: u32) -> Vec<u8> {
+    let last = [quantity.to_le_bytes(), limit.to_le_bytes()].concat();
+    record(2, &[&member.to_le_bytes(), &[side, validity], &last])
+}
+
+/// A day order of member 7.
+fn day(side: u8, quantity: u32, limit: u32) -> Vec<u8> {
+    order_of(7, side, 3, quantity, limit)
+}
+
+fn delete(number: u32, member: u16) -> Vec<u8> {
+    record(3, &[&number.to_le_bytes(), &member.to_le_bytes()])
+}
+
+fn auction(which: u8) -> Vec<u8> {
+    record(4, &[&[which]])
+}
+
+/// Runs the records and compares whole; the expected lines are joined with line ends.
+fn check(records: &[Vec<u8>], expected: &[&str]) {
+    assert_eq!(run(&records.concat()), expected.join("\n") + "\n");
+}
+
+/// Starts, enters the orders, holds an opening, and compares what follows the orders' lines.
+fn check_opening(orders: &[Vec<u8>], expected: &[&str]) {
+    check_opening_after(start(), orders, expected);
+}
+
+fn check_opening_after(start: Vec<u8>, orders: &[Vec<u8>], expected: &[&str]) {
+    let mut lines = vec!["1 start 0".to_string()];
+    for number in 1..=orders.len() {
+        lines.push(format!("{} order 0 {number}", number + 1));
+    }
+    let place = orders.len() + 2;
+    lines.push(format!("{place} {}", expected[0]));
+    lines.extend(expected[1..].iter().map(|line| line.to_string()));
+    lines.push(format!("end {place}"));
+    let lines: Vec<&str> = lines.iter().map(String::as_str).collect();
+    check(&[vec![start], orders.to_vec(), vec![auction(OPENING)]].concat(), &lines);
+}
+
+#[test]
+fn worked_example() {
+    let bytes: [u8; 24] = [
+        0x18, 0x00, 0x01, 0x00, 0x64, 0x00, 0x00, 0x00, 0xA0, 0x86, 0x01, 0x00, 0x09, 0x00, 0x96,
+        0x00, 0x00, 0x10, 0xA5, 0xD4, 0xE8, 0x00, 0x00, 0x00,
+    ];
+    assert_eq!(start(), bytes);
+    check(
+        &[
+            bytes.to_vec(),
+            day(BUY, 50, 100_200),
+            day(BUY, 50, 100_400),
+            day(BUY, 50, 100_200),
+            day(SELL, 80, 100_200),
+            auction(OPENING),
+        ],
+        &[
+            "1 start 0",
+            "2 order 0 1",
+            "3 order 0 2",
+            "4 order 0 3",
+            "5 order 0 4",
+            "6 auction 0 1 100200 80 2",
+            "trade 2 4 50",
+            "trade 1 4 30",
+            "end 6",
+        ],
+    );
+}
+
+#[test]
+fn record_bytes_of_the_other_kinds() {
+    assert_eq!(day(BUY, 50, 100_200), [16, 0, 2, 0, 7, 0, 1, 3, 50, 0, 0, 0, 0x68, 0x87, 1, 0]);
+    assert_eq!(delete(258, 7), [10, 0, 3, 0, 2, 1, 0, 0, 7, 0]);
+    assert_eq!(auction(CLOSING), [5, 0, 4, 0, 2]);
+}
+
+#[test]
+fn p1_upper_collar() {
+    check(
+        &[start(), day(BUY, 1, 899_900), day(BUY, 1, 900_000)],
+        &["1 start 0", "2 order 0 1", "3 order 6 0", "end 3"],
+    );
+}
+
+#[test]
+fn p2_lower_collar() {
+    check(
+        &[start(), day(SELL, 1, 11_200), day(SELL, 1, 11_100)],
+        &["1 start 0", "2 order 0 1", "3 order 6 0", "end 3"],
+    );
+}
+
+/// "Reaches" counts as a hit below too: 10,000 × 10 is the reference.
+#[test]
+fn lower_collar_reached() {
+    check(
+        &[
+            start_with(100, 100_000, 10, 150, 1_000_000_000_000),
+            day(SELL, 1, 10_000),
+            day(SELL, 1, 10_100),
+        ],
+        &["1 start 0", "2 order 6 0", "3 order 0 1", "end 3"],
+    );
+}
+
+#[test]
+fn p3_value_at_limit() {
+    check(
+        &[start(), day(BUY, 5_000_000, 200_000), day(BUY, 4_999_999, 200_000)],
+        &["1 start 0", "2 order 7 0", "3 order 0 1", "end 3"],
+    );
+}
+
+#[test]
+fn p4_value_at_reference() {
+    check(
+        &[start(), day(BUY, 10_000_000, UNLIMITED), day(BUY, 9_999_999, UNLIMITED)],
+        &["1 start 0", "2 order 8 0", "3 order 0 1", "end 3"],
+    );
+}
+
+#[test]
+fn p5_nearest_to_reference() {
+    check_opening(
+        &[day(BUY, 100, 100_500), day(SELL, 100, 99_500)],
+        &["auction 0 1 100000 100 1", "trade 1 2 100"],
+    );
+}
+
+#[test]
+fn p6_pressure_of_one_side() {
+    check_opening(
+        &[day(BUY, 100, 100_500), day(SELL, 60, 99_500)],
+        &["auction 0 1 100500 60 1", "trade 1 2 60"],
+    );
+    check_opening(
+        &[day(BUY, 60, 100_500), day(SELL, 100, 99_500)],
+        &["auction 0 1 99500 60 1", "trade 1 2 60"],
+    );
+}
+
+#[test]
+fn p7_only_unlimited() {
+    check_opening(
+        &[day(BUY, 50, UNLIMITED), day(SELL, 50, UNLIMITED)],
+        &["auction 0 1 100000 50 1", "trade 1 2 50"],
+    );
+}
+
+#[test]
+fn p8_non_opening() {
+    check_opening(&[day(BUY, 50, UNLIMITED), day(SELL, 30, 100_200)], &["auction 0 3 0 0 0"]);
+    check_opening(
+        &[day(BUY, 30, UNLIMITED), day(SELL, 30, 100_200)],
+        &["auction 0 1 100200 30 1", "trade 1 2 30"],
+    );
+}
+
+#[test]
+fn p9_surplus_on_both_sides() {
+    let orders = [
+        day(BUY, 100, 100_400),
+        day(BUY, 20, 100_200),
+        day(SELL, 100, 99_800),
+        day(SELL, 20, 100_400),
+    ];
+    check_opening(&orders, &["auction 0 1 100000 100 1", "trade 1 3 100"]);
+    check_opening_after(
+        start_with(100, 101_000, 9, 150, 1_000_000_000_000),
+        &orders,
+        &["auction 0 1 100400 100 1", "trade 1 3 100"],
+    );
+}
+
+/// "The price" 2: difference 0 at 100,400 only; 20 at 99,800, 100,000 and 100,200.
+#[test]
+fn smallest_difference() {
+    check_opening(
+        &[day(BUY, 100, 100_400), day(BUY, 20, 100_200), day(SELL, 100, 99_800)],
+        &["auction 0 1 100400 100 1", "trade 1 3 100"],
+    );
+}
+
+#[test]
+fn p10_delayed_opening() {
+    check(
+        &[
+            start(),
+            day(BUY, 10, 101_500),
+            day(SELL, 10, 101_500),
+            auction(OPENING),
+            auction(OPENING),
+            auction(OPENING),
+        ],
+        &[
+            "1 start 0",
+            "2 order 0 1",
+            "3 order 0 2",
+            "4 auction 0 4 101500 10 0",
+            "5 auction 0 1 101500 10 1",
+            "trade 1 2 10",
+            "6 auction 4 0 0 0 0",
+            "end 6",
+        ],
+    );
+    check_opening(
+        &[day(BUY, 10, 101_400), day(SELL, 10, 101_400)],
+        &["auction 0 1 101400 10 1", "trade 1 2 10"],
+    );
+}
+
+#[test]
+fn empty_book() {
+    check_opening(&[], &["auction 0 2 0 0 0"]);
+}
+
+#[test]
+fn at_the_close() {
+    check(
+        &[
+            start(),
+            order_of(7, BUY, 2, 50, UNLIMITED),
+            day(SELL, 30, 100_200),
+            auction(OPENING),
+            auction(CLOSING),
+            delete(1, 7),
+            delete(2, 7),
+        ],
+        &[
+            "1 start 0",
+            "2 order 0 1",
+            "3 order 0 2",
+            "4 auction 0 2 0 0 0",
+            "5 auction 0 1 100200 30 1",
+            "trade 1 2 30",
+            "6 delete 11",
+            "7 delete 11",
+            "end 7",
+        ],
+    );
+}
+
+#[test]
+fn faults() {
+    check(&[], &["end 0"]);
+    for cut in 1..24 {
+        check(&[start()[..cut].to_vec()], &["1 fault 1", "end 0"]);
+    }
+    // An unknown kind or a wrong length, whole or with bytes missing; what follows isn't read.
+    for bad in [
+        record(0, &[]),
+        record(5, &[&[1]]),
+        record(3, &[]),
+        record(4, &[&[1, 1]]),
+        vec![0, 0, 1, 0],
+        vec![24, 0, 2, 0],
+        vec![255, 255, 9, 0],
+    ] {
+        check(&[start(), bad.clone()], &["1 start 0", "2 fault 1", "end 1"]);
+        check(&[start(), bad, auction(OPENING)], &["1 start 0", "2 fault 1", "end 1"]);
+    }
+    // A cut record behind a good one.
+    for cut in 1..16 {
+        let cut = day(BUY, 1, 100_000)[..cut].to_vec();
+        check(&[start(), cut], &["1 start 0", "2 fault 1", "end 1"]);
+    }
+    // Before the start too: a field out of range goes on, a fault ends.
+    check(&[delete(0, 0), vec![5, 0, 4, 0]], &["1 delete 1", "2 fault 1", "end 1"]);
+}
+
+#[test]
+fn start_fields_and_repeats() {
+    let good = 1_000_000_000_000_000;
+    let mut records = vec![
+        start_with(0, 100_000, 9, 150, good),
+        start_with(1_000_001, 2_000_002, 9, 150, good),
+        start_with(100, 0, 9, 150, good),
+        start_with(1, 100_000_001, 9, 150, good),
+        start_with(100, 100_050, 9, 150, good),
+        start_with(100, 100_000, 1, 150, good),
+        start_with(100, 100_000, 1_000, 150, good),
+        start_with(100, 100_000, 9, 0, good),
+        start_with(100, 100_000, 9, 10_000, good),
+        start_with(100, 100_000, 9, 150, 0),
+        start_with(100, 100_000, 9, 150, good + 1),
+    ];
+    let mut lines: Vec<String> = (1..=11).map(|place| format!("{place} start 1")).collect();
+    records.extend([start_with(1_000_000, 100_000_000, 999, 9_999, good), start()]);
+    records.push(start_with(100, 100_050, 9, 150, good));
+    lines.extend(["12 start 0", "13 start 3", "14 start 1", "end 14"].map(String::from));
+    check(&records, &lines.iter().map(String::as_str).collect::<Vec<_>>());
+}
+
+#[test]
+fn order_of_checks() {
+    check(
+        &[
+            order_of(0, BUY, 3, 1, 100),
+            day(BUY, 1, 100),
+            delete(0, 7),
+            delete(1, 0),
+            delete(1_000_001, 7),
+            delete(1_000_000, 7),
+            auction(0),
+            auction(3),
+            auction(OPENING),
+            start(),
+            auction(CLOSING),
+            day(0, 1, 100_000),
+            day(3, 1, 100_000),
+            order_of(7, BUY, 0, 1, 100_000),
+            order_of(7, BUY, 5, 1, 100_000),
+            day(BUY, 0, 100_000),
+            day(BUY, 10_000_001, 100_000),
+            day(BUY, 1, 100_000_001),
+            day(BUY, 10_000_000, 900_050),
+            day(BUY, 10_000_000, 900_000),
+            day(BUY, 10_000_000, 100_000),
+            day(BUY, 10_000_000, 99_900),
+            order_of(65_535, BUY, 1, 1, 100_000),
+            delete(1, 7),
+            delete(2, 65_535),
+            delete(1, 65_535),
+            delete(1, 65_535),
+        ],
+        &[
+            "1 order 1 0",
+            "2 order 2 0",
+            "3 delete 1",
+            "4 delete 1",
+            "5 delete 1",
+            "6 delete 2",
+            "7 auction 1 0 0 0 0",
+            "8 auction 1 0 0 0 0",
+            "9 auction 2 0 0 0 0",
+            "10 start 0",
+            "11 auction 4 0 0 0 0",
+            "12 order 1 0",
+            "13 order 1 0",
+            "14 order 1 0",
+            "15 order 1 0",
+            "16 order 1 0",
+            "17 order 1 0",
+            "18 order 1 0",
+            "19 order 5 0",
+            "20 order 6 0",
+            "21 order 7 0",
+            "22 order 8 0",
+            "23 order 0 1",
+            "24 delete 11",
+            "25 delete 11",
+            "26 delete 0",
+            "27 delete 11",
+            "end 27",
+        ],
+    );
+}
+
+#[test]
+fn phases_rests_and_new_reference() {
+    check(
+        &[
+            start(),
+            order_of(7, BUY, 1, 50, 100_200),
+            order_of(7, SELL, 3, 30, 100_200),
+            order_of(7, BUY, 4, 5, 99_000),
+            order_of(7, BUY, 3, 5, 99_000),
+            auction(OPENING),
+            delete(1, 7),
+            order_of(7, BUY, 1, 1, 100_200),
+            day(BUY, 1, 901_700),
+            day(BUY, 1, 901_800),
+            day(BUY, 9_980_040, UNLIMITED),
+            delete(5, 7),
+            auction(CLOSING),
+            delete(4, 7),
+            day(BUY, 1, 100_200),
+            auction(OPENING),
+            auction(CLOSING),
+            delete(3, 7),
+        ],
+        &[
+            "1 start 0",
+            "2 order 0 1",
+            "3 order 0 2",
+            "4 order 0 3",
+            "5 order 0 4",
+            "6 auction 0 1 100200 30 1",
+            "trade 1 2 30",
+            "7 delete 11",
+            "8 order 4 0",
+            "9 order 0 5",
+            "10 order 6 0",
+            "11 order 8 0",
+            "12 delete 0",
+            "13 auction 0 2 0 0 0",
+            "14 delete 11",
+            "15 order 4 0",
+            "16 auction 4 0 0 0 0",
+            "17 auction 4 0 0 0 0",
+            "18 delete 0",
+            "end 18",
+        ],
+    );
+}
+
+#[test]
+fn errors_that_look_right() {
+    // A reused place doesn't jump the queue.
+    check(
+        &[
+            start(),
+            day(BUY, 10, 100_000),
+            day(BUY, 10, 100_000),
+            delete(1, 7),
+            day(BUY, 10, 100_000),
+            day(SELL, 10, 100_000),
+            auction(OPENING),
+        ],
+        &[
+            "1 start 0",
+            "2 order 0 1",
+            "3 order 0 2",
+            "4 delete 0",
+            "5 order 0 3",
+            "6 order 0 4",
+            "7 auction 0 1 100000 10 1",
+            "trade 2 4 10",
+            "end 7",
+        ],
+    );
+    // Non Opening answers before Delayed Opening, and leaves the delay unspent.
+    check(
+        &[
+            start(),
+            day(BUY, 50, UNLIMITED),
+            day(SELL, 30, 102_000),
+            auction(OPENING),
+            day(SELL, 20, 103_000),
+            auction(OPENING),
+            auction(OPENING),
+        ],
+        &[
+            "1 start 0",
+            "2 order 0 1",
+            "3 order 0 2",
+            "4 auction 0 3 0 0 0",
+            "5 order 0 3",
+            "6 auction 0 4 103000 50 0",
+            "7 auction 0 1 103000 50 2",
+            "trade 1 2 30",
+            "trade 1 3 20",
+            "end 7",
+        ],
+    );
+    // Unlimited with nobody opposite: the highest executable quantity is 0 and is exceeded.
+    check_opening(&[day(SELL, 1, UNLIMITED)], &["auction 0 3 0 0 0"]);
+}
+
+#[test]
+fn rank_of_sells() {
+    check_opening(
+        &[
+            day(SELL, 10, 100_000),
+            day(SELL, 10, 99_900),
+            day(SELL, 10, UNLIMITED),
+            day(SELL, 10, 99_900),
+            day(BUY, 35, 100_000),
+        ],
+        &["auction 0 1 100000 35 4", "trade 5 3 10", "trade 5 2 10", "trade 5 4 10", "trade 5 1 5"],
+    );
+}
+
+#[test]
+fn all_places_taken() {
+    let mut file = start();
+    for _ in 0..512 {
+        file.extend(day(BUY, 1, 100_000));
+    }
+    for more in [day(BUY, 1, 100_000), delete(5, 7), day(BUY, 1, 100_000), day(SELL, 1, 100_000)] {
+        file.extend(more);
+    }
+    let lines = run(&file);
+    assert!(lines.ends_with(
+        "513 order 0 512\n514 order 10 0\n515 delete 0\n516 order 0 513\n517 order 10 0\nend 517\n"
+    ));
+}
+
+#[test]
+fn all_numbers_given() {
+    let mut file = start();
+    for number in 1..=1_000_000 {
+        file.extend(day(BUY, 1, 100_000));
+        file.extend(delete(number, 7));
+    }
+    file.extend(day(BUY, 1, 100_000));
+    let lines = run(&file);
+    assert!(lines.ends_with(
+        "\n2000000 order 0 1000000\n2000001 delete 0\n2000002 order 9 0\nend 2000002\n"
+    ));
+}
+
+#[test]
+fn largest_numbers() {
+    let mut file = start_with(1_000_000, 100_000_000, 999, 9_999, 1_000_000_000_000_000);
+    file.extend(day(BUY, 10_000_000, 100_000_000));
+    for _ in 0..256 {
+        file.extend(day(BUY, 9_999_999, 100_000_000));
+        file.extend(day(SELL, 9_999_999, UNLIMITED));
+    }
+    file.extend(auction(OPENING));
+    let lines = run(&file);
+    assert!(lines.contains("\n2 order 7 0\n3 order 0 1\n"));
+    assert!(lines.contains("\n515 auction 0 1 100000000 2559999744 256\ntrade 1 2 9999999\n"));
+}
+
+#[test]
+fn most_trades() {
+    let mut file = [start(), day(BUY, 511, 100_000)].concat();
+    for _ in 0..511 {
+        file.extend(day(SELL, 1, 100_000));
+    }
+    file.extend(auction(OPENING));
+    assert!(run(&file).contains("\n514 auction 0 1 100000 511 511\ntrade 1 2 1\ntrade 1 3 1\n"));
+}
+
+/// Any bytes end well, and the trades of every auction are as many and sum to what it says.
+#[test]
+fn any_bytes() {
+    let mut seed: u64 = 1;
+    let mut draw = move |below: u64| {
+        seed = seed.wrapping_mul(6364136223846793005).wrapping_add(1442695040888963407);
+        (seed >> 33) % below
+    };
+    for _ in 0..2_000 {
+        let mut file = if draw(9) == 0 { vec![] } else { start() };
+        for _ in 0..draw(60) {
+            let limit = [UNLIMITED, 98_000 + 100 * draw(40) as u32][draw(8).min(1) as usize];
+            let number = draw(40) as u32;
+            file.extend(match draw(12) {
+                0 => delete(number, 7),
+                1 => auction(draw(4) as u8),
+                _ => order_of(7, draw(9) as u8 % 2 + 1, draw(6) as u8, number, limit),
+            });
+        }
+        for _ in 0..draw(3) {
+            let at = draw(file.len() as u64 + 1) as usize;
+            file.insert(at, draw(256) as u8);
+        }
+        let lines = run(&file);
+        let mut due = (0, 0);
+        for line in lines.lines() {
+            let words: Vec<&str> = line.split(' ').collect();
+            let value = |at: usize| words[at].parse::<u64>().unwrap();
+            if words[0] == "trade" {
+                due = (due.0 - 1, due.1 - value(3));
+                continue;
+            }
+            assert_eq!(due, (0, 0), "{lines}");
+            if words[1] == "auction" && words[3] == "1" {
+                due = (value(6), value(5));
+            }
+        }
+        assert!(lines.lines().last().unwrap().starts_with("end "));
+    }
+}

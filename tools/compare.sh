@@ -1,0 +1,39 @@
+#!/bin/sh
+# compare.sh [N]: the session program and the second one on session files made by seed: what they print must be the same bytes.
+# The fixed set, in which every rule has to come up; or with N the last-number session and seeds 1 to N.
+cd "$(dirname "$0")/.." || exit 1
+program=target/bin/replay
+made=target/compare
+fail() {
+    echo "compare: $*" >&2
+    exit 1
+}
+case ${1:-1} in *[!0-9]*) fail "how many seeds? N is a number" ;; esac
+if ! command -v rustc >/dev/null 2>&1; then
+    echo "compare: left out: there is no rustc on the PATH to build the second program and the comparison with"
+    [ "$ALLOW_NO_RUSTC" = 1 ]
+    exit
+fi
+[ -x "$program" ] || fail "no program $program"
+
+# Each with plain rustc: no cache of Cargo's is needed.
+mkdir -p "$made" || exit 1
+for name in second compare; do
+    rustc -O --edition 2021 -o "$made/$name" "$name/src/main.rs" || fail "$name does not build"
+done
+
+# The second program's own tests: the scope document's sums and its worked example.
+if [ -z "$1" ]; then
+    rustc -O --edition 2021 --test -o "$made/tests" second/src/main.rs || fail "the second program's tests do not build"
+    "$made/tests" -q >"$made/tests.log" 2>&1 || { cat "$made/tests.log" >&2; fail "the second program fails its own tests"; }
+fi
+
+# shellcheck source=tools/x86.sh
+. tools/x86.sh
+words=$(x86words) || exit 1
+engine="$words $program"
+# A program that hangs differs, too.
+command -v timeout >/dev/null 2>&1 && engine="timeout 300 $engine"
+
+set -- ${1:+--seeds "0..$(($1 + 1))"}
+exec "$made/compare" "$@" --engine "$engine" --second "$made/second" --keep "$made/differences"
