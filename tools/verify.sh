@@ -14,6 +14,7 @@ dir=$(mktemp -d) || exit 1
 trap 'rm -rf "$dir"' EXIT
 
 # Which files are there.
+# shellcheck disable=SC2086
 files() {
     { echo MANIFEST; printf 'bin/%s\n' $programs; printf '%s\n' $documents; } | sort >"$dir/asked"
     (cd "$from" && find . ! -type d) | sed 's,^\./,,' | sort >"$dir/there"
