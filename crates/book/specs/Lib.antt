@@ -4,6 +4,7 @@ pub mod Words
 pub mod Columns
 pub mod Changes
 pub mod Resting
+pub mod Groups
 pub mod Rests
 pub mod Sound
 pub mod Additions

@@ -10,8 +10,9 @@ use terms::Place;
 use terms::Side;
 use terms::Validity;
 ghost use mathlib.Core.Path.{_≡_};
-ghost use Prim.Native.Nat.{_<_};
+ghost use Prim.Native.Nat.{_<_, _≤_, _+_};
 ghost use Rattle.book.specs.Columns.{sideFrom, validityFrom, orderAt, emptyBook, stored, cleared};
+ghost use Rattle.book.specs.Groups.{hasNumber};
 ghost use Rattle.book.specs.Resting.{placeIn};
 
 // Sides and validities stand under their numbers of 01.
@@ -103,6 +104,49 @@ impl Book {
     }
 }
 
+// Places that are looked at together.
+const GROUP: usize = 8;
+
+// Whether one of eight places from one on has this number: told together, so that the machine compares them at once.
+fn has_number(numbers: &[u32; 512], from: usize, number: u32) -> bool
+    requires { ⌜ from + 8 ≤ 512 ⌝ }
+    ensures { λ r. ⌜ r ≡ hasNumber (now (numbers .entry)) number from 8 ⌝ }
+{
+    (numbers[from] == number)
+        | (numbers[from + 1] == number)
+        | (numbers[from + 2] == number)
+        | (numbers[from + 3] == number)
+        | (numbers[from + 4] == number)
+        | (numbers[from + 5] == number)
+        | (numbers[from + 6] == number)
+        | (numbers[from + 7] == number)
+}
+
+// The least of eight places from one on whose resting order has this number and this member, or the place behind them.
+fn place_in_group<'a>(
+    taken: &'a [u64; 8],
+    numbers: &'a [u32; 512],
+    members: &'a [u16; 512],
+    number: u32,
+    member: u16,
+    from: usize,
+) -> usize
+    requires { ⌜ from + 8 ≤ 512 ⌝ }
+    ensures { λ r. ⌜ r ≡ placeIn (now (taken .entry)) (now (numbers .entry)) (now (members .entry)) number member from 8 ⌝ }
+{
+    let behind = from + GROUP;
+    let mut place: usize = from;
+    while place < behind {
+        if (numbers[place] == number) & (members[place] == member) {
+            if bit_of(taken[place / WORD_PLACES], place % WORD_PLACES) == 1 {
+                return place;
+            }
+        }
+        place += 1;
+    }
+    behind
+}
+
 // The least place whose resting order has this number and this member, or 512.
 pub fn place_of<'a>(
     taken: &'a [u64; 8],
@@ -115,12 +159,13 @@ pub fn place_of<'a>(
 {
     let mut place: usize = 0;
     while place < Place::COUNT {
-        if (numbers[place] == number) & (members[place] == member) {
-            if bit_of(taken[place / WORD_PLACES], place % WORD_PLACES) == 1 {
-                return place;
+        if has_number(numbers, place, number) {
+            let found = place_in_group(taken, numbers, members, number, member, place);
+            if found < place + GROUP {
+                return found;
             }
         }
-        place += 1;
+        place += GROUP;
     }
     Place::COUNT
 }
