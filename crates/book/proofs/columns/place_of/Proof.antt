@@ -1,5 +1,5 @@
 -- The loop's invariant: what is sought is at or after the place reached, which starts a group.
-use Prim.Native.Nat.{ℕ, _+_, _-_, _%_, _≤_, _<_}
+use Prim.Native.Nat.{ℕ, _+_, _-_, _%_, _≤_}
 use mathlib.Core.Logic.{⊎-elim}
 use mathlib.Core.Path.{_≡_, _∙_, sym}
 use borrow.Author.Needs.{needs}
@@ -20,10 +20,6 @@ abbrev μ-loop : tie.MeasureT-loop
 left-more : (p : ℕ) → p + 8 ≤ 512 → 512 - p ≡ 8 + (512 - (p + 8))
 left-more p h = omega arith
 
--- a group that starts below 512 ends there at the latest
-whole : (p : ℕ) → p % 8 ≡ 0 → p < 512 → p + 8 ≤ 512
-whole p e h = omega arith
-
 loop-holds : tie.Need-loop-holds Inv-loop μ-loop
 loop-holds c = search needs
 
@@ -40,10 +36,11 @@ returns : tie.Need-returns Inv-loop μ-loop
 returns c =
     let l = c .before .before .before .before in
     let e = c .before .place-in-group .ensures in
+    let within : l .before .loop .place + 8 ≤ 512 = omega arith in
     e ∙
     sym
     (l .before .loop .inv .2 ∙
-    rw (left-more _ (whole _ (l .before .loop .inv .1) (l .loop-test .taken)))
+    rw (left-more _ within)
     (place-in-found _ _ _ _ _ 8 _ _ (rw (← e) (c .if2 .taken))))
 
 add-place : tie.Need-add-place Inv-loop μ-loop
@@ -54,11 +51,12 @@ loop-less c = search needs
 
 loop-again : tie.Need-loop-again Inv-loop μ-loop
 loop-again c =
-    let l = c .before .before in (
+    let l = c .before .before in
+    let within : l .before .loop .place + 8 ≤ 512 = omega arith in (
       search needs,
       search needs,
       l .before .loop .inv .2 ∙
-          rw (left-more _ (whole _ (l .before .loop .inv .1) (l .loop-test .taken)))
+          rw (left-more _ within)
           (place-in-past _ _ _ _ _ 8 _ _
           (⊎-elim
           (λ w. rw (← w .1 .ensures) (omega (arith, w .2 .left)))
