@@ -67,10 +67,11 @@ struct Followed {
 impl Followed {
     /// A record that was answered 0 and the two numbers behind it.
     fn done(&mut self, record: &Record, told: [u64; 2], counts: &mut Counts) {
-        let [first, side, validity, left, limit] = record.values;
+        let [first, second, validity, left, limit] = record.values;
+        let order = Resting { side: second, validity, left, limit };
         match record.kind {
-            START => self.reference = side,
-            ORDER => drop(self.resting.insert(told[0], Resting { side, validity, left, limit })),
+            START => self.reference = second,
+            ORDER => drop(self.resting.insert(told[0], order)),
             DELETE => drop(self.resting.remove(&first)),
             _ => self.auction(first == OPENING, told, counts),
         }

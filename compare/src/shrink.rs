@@ -36,17 +36,21 @@ pub fn shrink(file: &[u8], differs: &dyn Fn(&[u8]) -> bool) -> Vec<u8> {
 }
 
 impl Shrink<'_> {
+    fn spent(&self) -> bool {
+        self.tries == TRIES || self.begun.elapsed() > TIME
+    }
+
     fn differs(&mut self, file: &[u8]) -> bool {
         self.tries += 1;
-        self.tries <= TRIES && self.begun.elapsed() < TIME && (self.differs)(file)
+        (self.differs)(file)
     }
 
     /// Leaves out runs of parts, shorter and shorter; single ones until each is needed.
     fn drop_runs<T: Clone>(&mut self, parts: &mut Vec<T>, file: impl Fn(&[T]) -> Vec<u8>) {
         let mut run = parts.len();
-        while run > 0 {
+        while run > 0 && !self.spent() {
             let (before, mut from) = (parts.len(), 0);
-            while from < parts.len() {
+            while from < parts.len() && !self.spent() {
                 let to = parts.len().min(from + run);
                 let fewer = [&parts[..from], &parts[to..]].concat();
                 if self.differs(&file(&fewer)) {
@@ -64,7 +68,7 @@ impl Shrink<'_> {
     /// Lowers a field to 1 if that will do, else by less and less.
     fn lower(&mut self, records: &mut [Record], place: usize, field: usize, rest: &[u8]) {
         let mut by = records[place].values[field].saturating_sub(1);
-        while by > 0 {
+        while by > 0 && !self.spent() {
             let value = records[place].values[field];
             if value > by {
                 records[place].values[field] = value - by;

@@ -292,10 +292,13 @@ fn delayed_opening(maker: &mut Maker) {
 /// More orders than places; or as many trades as there can be; or a book that stays full.
 fn full_books(maker: &mut Maker) {
     let (side, steps) = (maker.side(), maker.dice.within(0..=40));
-    maker.start();
     if maker.dice.once_in(2) {
+        maker.start();
         maker.any_orders(PLACES - 1..=PLACES + 5, steps);
     } else {
+        // So that 7 and 8 are met in a full book.
+        maker.maximum = 1_000 * maker.reference;
+        maker.start();
         if maker.dice.once_in(2) {
             maker.order(side, DAY, PLACES - 1, maker.reference);
         }
@@ -306,7 +309,7 @@ fn full_books(maker: &mut Maker) {
     for auction in [OPENING, OPENING, CLOSING] {
         maker.misfits(0..=5);
         maker.any_deletions(0..=3);
-        maker.any_orders(0..=5, steps);
+        maker.any_orders(0..=8, steps);
         maker.auction(auction);
     }
     maker.misfits(0..=5);
@@ -386,8 +389,13 @@ fn bad_fields(maker: &mut Maker) {
     ] {
         for (field, (_, most)) in fields(kind).iter().enumerate() {
             for value in [0, 1, values[field], values[field] + 1, *most, most + 1, u64::MAX] {
-                records.push(Record { kind, values });
-                records.last_mut().expect("just put").values[field] = value;
+                let mut record = Record { kind, values };
+                record.values[field] = value;
+                // Or a bad step would be one that the reference price is no multiple of.
+                if kind == START && field == 0 && value > 0 {
+                    record.values[1] = value;
+                }
+                records.push(record);
             }
         }
     }
