@@ -48,7 +48,7 @@ struct Maker {
 
 type Temper = fn(&mut Maker);
 
-const TEMPERS: [(&str, Temper); 17] = [
+const TEMPERS: [(&str, Temper); 18] = [
     ("crossing books", crossing),
     ("ties", ties),
     ("both sides unlimited", both_unlimited),
@@ -64,6 +64,7 @@ const TEMPERS: [(&str, Temper); 17] = [
     ("two sessions", two_sessions),
     ("cut", cut),
     ("damaged", damaged),
+    ("bad headers", bad_headers),
     ("random bytes", random_bytes),
     ("far over 64 KiB", far),
 ];
@@ -439,6 +440,23 @@ fn damaged(maker: &mut Maker) {
         let place = maker.dice.within(0..=maker.file.len() as u64 - 1);
         maker.file[place as usize] ^= maker.dice.within(1..=255) as u8;
     }
+}
+
+/// A header that is nearly a good one: its length may be one off, or its kind one beyond.
+fn bad_headers(maker: &mut Maker) {
+    maker.start();
+    maker.any_orders(0..=3, 5);
+    let (kind, length) = maker.dice.one_of(&[(1, 24), (2, 16), (3, 10), (4, 5)]);
+    let (kind, length) = match maker.dice.once_in(2) {
+        true => (kind, maker.dice.about(length)),
+        false => (maker.dice.one_of(&[0, 5]), length),
+    };
+    maker.file.extend((length as u16).to_le_bytes());
+    maker.file.extend((kind as u16).to_le_bytes());
+    for _ in 4..length {
+        maker.file.push(maker.dice.within(0..=3) as u8);
+    }
+    maker.any_orders(0..=3, 5);
 }
 
 /// Random bytes and nothing else, or good records with random values and few such bytes.
