@@ -1,9 +1,10 @@
 // Which outcome an auction has: 01 "Outcomes", in its order.
 use crate::Outcome;
 use price::Found;
+use price::apart;
 use terms::Auction;
 use terms::DelayThreshold;
-use terms::OrderValue;
+use terms::product;
 ghost use mathlib.Core.Path.{_≡_};
 ghost use Rattle.auction.specs.Outcome.{reaches as Outcome·reaches, delays as Outcome·delays};
 ghost use Rattle.auction.specs.Decided.{preventedBy, outcomeFrom};
@@ -12,12 +13,8 @@ ghost use Rattle.auction.specs.Decided.{preventedBy, outcomeFrom};
 fn reaches(threshold: u16, reference: u32, price: u32) -> bool
     ensures { λ r. ⌜ r ≡ Outcome·reaches threshold reference price ⌝ }
 {
-    let apart = if price <= reference {
-        reference - price
-    } else {
-        price - reference
-    };
-    OrderValue::of(threshold as u32, reference) <= apart as u64 * DelayThreshold::WHOLE
+    let away = apart(price as u64, reference as u64);
+    product(threshold as u32, reference) <= away * DelayThreshold::WHOLE
 }
 
 // Delayed Opening: no delay has been given yet, and the price reaches the threshold; a closing is never delayed.

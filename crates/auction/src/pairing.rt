@@ -16,7 +16,7 @@ pub struct Front {
     pub left: u32,
 }
 
-fn least(a: u32, b: u32) -> u32
+fn smaller(a: u32, b: u32) -> u32
     ensures { λ r. ⌜ r ≡ min a b ⌝ }
 {
     if a <= b { a } else { b }
@@ -98,7 +98,7 @@ pub fn pair<'a>(
     };
     let mut k: usize = 0;
     while going(b.at, bought.len(), s.at, sold.len()) {
-        let q = least(b.left, s.left);
+        let q = smaller(b.left, s.left);
         let buy = number_at(numbers, buys, b.at);
         let sell = number_at(numbers, sells, s.at);
         write_trade(list, k, buy, sell, q, price);

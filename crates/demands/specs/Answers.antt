@@ -18,13 +18,13 @@ use Rattle.terms.specs.declared.parameters.{Parameters.Parameters}
 use Rattle.book.specs.Places.{countTaken}
 use Rattle.book.specs.Resting.{resting, isOf}
 use Rattle.session.specs.declared.{Session.Session, Started.Started, Entered.Entered, Deleted.Deleted, Foreseen.Foreseen}
-use Rattle.session.specs.Phases.{hasStarted, allowsOrder, allowsAuction}
-use Rattle.session.specs.Controls.{offStep, reachesCollar, reachesMost, reachesMostAtReference}
-use Rattle.session.specs.Checks.{Check, firstHit}
-use Rattle.session.specs.Exactly.{ruleOf, earlier, NoneHit, wellNumbered, none-hit, given-exactly-when}
+use Rattle.refusals.specs.Phases.{hasStarted, allowsOrder, allowsAuction}
+use Rattle.refusals.specs.Controls.{offStep, reachesCollar, reachesMost, reachesMostAtReference}
+use Rattle.refusals.specs.Checks.{Check, firstHit}
+use Rattle.refusals.specs.Exactly.{ruleOf, earlier, NoneHit, wellNumbered, none-hit, given-exactly-when}
 use Rattle.session.specs.Queues.{QueueLeaves, rankedChecks, rankedAnswer, queued, FrontAnswer, frontChecks, frontAnswer, filledFront, front-side}
 use Rattle.session.specs.QueueCalls.{queue-made}
-use Rattle.session.specs.Sound.{test-holds}
+use Rattle.lists.specs.Tests.{test-holds}
 use Rattle.session.specs.Auctions.{AuctionLeaves, noAnswer, auctionChecks, auctionRefused, auctionAnswer, auctioned, theoreticalChecks, theoreticalAnswer, theoretical}
 use Rattle.session.specs.Entry.{freshSession, startChecks, startAnswer, started, orderChecks, orderAnswer, entered, deleteChecks, deleteAnswer, deleted}
 

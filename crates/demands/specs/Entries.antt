@@ -19,7 +19,7 @@ use Rattle.book.specs.Rests.{place-found}
 use Rattle.book.specs.Sound.{legal-limit}
 use Rattle.book.specs.Additions.{stored-resting, cleared-resting}
 use Rattle.session.specs.declared.{Session.Session}
-use Rattle.session.specs.Checks.{firstHit}
+use Rattle.refusals.specs.Checks.{firstHit}
 use Rattle.session.specs.Entry.{orderChecks, entered, enteredSession, deleteChecks, deleted, deletedSession}
 use Rattle.session.specs.Sound.{Sound, accepted, asked-sound}
 use Rattle.session.specs.Calls.{delete-room}

@@ -10,7 +10,7 @@ use native.Mathlib.Omega.{arith}
 use borrow.Author.Tests.{le-ltb}
 use lib.Dec.{T, leb}
 use lib.ListN.{length}
-use Rattle.lists.specs.Tests.{tests, and-both}
+use Rattle.lists.specs.Tests.{tests, and-both, test-holds}
 use Rattle.terms.specs.Bounds.{tradeListLength}
 use Rattle.terms.specs.Kinds.{isReference}
 use Rattle.terms.specs.Orders.{auctionNumber, isAuction, auctionOf}
@@ -25,12 +25,13 @@ use Rattle.auction.specs.declared.{Outcome.Outcome, Outcome.the-variants.Traded
 use Rattle.auction.specs.Outcome.{outcome, prevented, delays, priced, trades, outcomeNumber, priceAnswered, takesPlace}
 use Rattle.auction.specs.NonOpening.{Fillable, non-opening-exactly}
 use Rattle.auction.specs.Written.{written}
-use Rattle.session.specs.declared.{Session.Session, Phase.the-variants.PreOpening, AuctionAnswer.AuctionAnswer}
-use Rattle.session.specs.Phases.{hasStarted, phaseAfter}
-use Rattle.session.specs.Checks.{firstHit}
-use Rattle.session.specs.Exactly.{none-hit}
+use Rattle.refusals.specs.declared.phases.{Phase.the-variants.PreOpening}
+use Rattle.session.specs.declared.{Session.Session, AuctionAnswer.AuctionAnswer}
+use Rattle.refusals.specs.Phases.{hasStarted, phaseAfter}
+use Rattle.refusals.specs.Checks.{firstHit}
+use Rattle.refusals.specs.Exactly.{none-hit}
 use Rattle.session.specs.Entry.{startChecks, startAnswer, started, orderChecks, orderAnswer, entered, deleteChecks, deleteAnswer, deleted}
-use Rattle.session.specs.Sound.{Sound, test-holds}
+use Rattle.session.specs.Sound.{Sound}
 use Rattle.session.specs.Auctions.{AuctionLeaves, part, outcomeOf, answerOf, delayGiven, sessionAfter, auctionLeaves, auctionChecks, auctionDone, auctionAnswer, auctioned, theoreticalChecks, theoreticalAnswer, theoretical}
 use Rattle.session.specs.AuctionCalls.{auction-started, auction-room, auction-carried-out}
 use Rattle.demands.specs.Answers.{auction-exactly}

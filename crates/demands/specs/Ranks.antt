@@ -18,8 +18,8 @@ use Rattle.queue.specs.Part.{takesPart, takingPart, takingPart-distinct, taking
 use Rattle.queue.specs.Distinct.{Distinct}
 use Rattle.queue.specs.Rank.{ahead, onSide, ranked, ahead-irrefl, ahead-trans, ahead-total, ranked-in-order, ranked-elim, ranked-intro, ranked-sum, ranked-same}
 use Rattle.session.specs.declared.{Session.Session}
-use Rattle.session.specs.Checks.{firstHit}
-use Rattle.session.specs.Exactly.{none-hit}
+use Rattle.refusals.specs.Checks.{firstHit}
+use Rattle.refusals.specs.Exactly.{none-hit}
 use Rattle.session.specs.Sound.{Sound}
 use Rattle.session.specs.Auctions.{part}
 use Rattle.session.specs.Queues.{QueueLeaves, rankedChecks, rankedNumbers, queueDone, queued}

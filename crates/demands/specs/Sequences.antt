@@ -14,7 +14,7 @@ use Rattle.terms.specs.Orders.{auctionOf}
 use Rattle.terms.specs.declared.parameters.{Parameters.Parameters}
 use Rattle.auction.specs.declared.{Outcome.Outcome, Outcome.the-variants.Traded, Outcome.the-variants.NoTrade, Outcome.the-variants.NonOpening, Outcome.the-variants.Delayed}
 use Rattle.session.specs.declared.{Session.Session}
-use Rattle.session.specs.Checks.{firstHit}
+use Rattle.refusals.specs.Checks.{firstHit}
 use Rattle.session.specs.Entry.{freshSession, startChecks, startAnswer, started, orderChecks, orderAnswer, entered, deleteChecks, deleteAnswer, deleted}
 use Rattle.session.specs.Auctions.{part, outcomeOf, sessionAfter, auctionChecks, auctionAnswer, auctioned}
 use Rattle.session.specs.SoundAfter.{auctioned-sound}

@@ -3,12 +3,11 @@ use Prim.Native.Nat.{ℕ}
 use mathlib.Core.List.{List, [], _∷_, _++_}
 use Rattle.auction.specs.declared.{Trade.Trade}
 use Rattle.lines.specs.declared.{Answer.Answer}
-use Rattle.lines.specs.Text.{decimal, space, newline, startWord, orderWord, deleteWord, auctionWord, tradeWord, faultWord, endWord}
+use Rattle.lines.specs.Text.{decimal, space, newline, numeral, texts, startWord, orderWord, deleteWord, auctionWord, tradeWord, faultWord, endWord}
 
 -- numbers, each behind a space, and the end of the line
 abbrev pub numbers : List ℕ → List ℕ
-numbers [] = newline ∷ []
-numbers (x ∷ xs) = space ∷ decimal x ++ numbers xs
+numbers xs = texts numeral xs ++ (newline ∷ [])
 
 -- a place, a word and numbers
 abbrev pub placed : ℕ → List ℕ → List ℕ → List ℕ
@@ -27,8 +26,7 @@ abbrev pub tradeLine : Trade → List ℕ
 tradeLine t = tradeWord ++ numbers (t .buy ∷ t .sell ∷ t .quantity ∷ [])
 
 abbrev pub tradeLines : List Trade → List ℕ
-tradeLines [] = []
-tradeLines (t ∷ ts) = tradeLine t ++ tradeLines ts
+tradeLines ts = texts tradeLine ts
 
 -- a record that ends the walk prints `fault 1` after its place
 abbrev pub faultLine : ℕ → List ℕ

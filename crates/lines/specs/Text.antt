@@ -22,6 +22,15 @@ space = 32
 abbrev pub newline : ℕ
 newline = 10
 
+-- a number behind a space
+abbrev pub numeral : ℕ → List ℕ
+numeral x = space ∷ decimal x
+
+-- texts one after another
+abbrev pub texts : {A : Type 0} → (A → List ℕ) → List A → List ℕ
+texts f [] = []
+texts f (x ∷ xs) = f x ++ texts f xs
+
 -- s t a r t
 abbrev pub startWord : List ℕ
 startWord = 115 ∷ 116 ∷ 97 ∷ 114 ∷ 116 ∷ []

@@ -1,16 +1,17 @@
 -- The lines of the trades in a lent list, written one by one.
 use Prim.Native.Nat.{ℕ, zero, suc, _+_, _*_, _≤_}
-use mathlib.Core.Path.{_≡_, refl, sym, ap, _∙_}
-use mathlib.Core.List.{List, [], _∷_, _++_, append-assoc, append-nil}
+use mathlib.Core.Path.{_≡_, refl, ap}
+use mathlib.Core.List.{List, [], _∷_, _++_}
 use native.Mathlib.Numerals.{add-one}
 use native.Mathlib.Omega.{arith}
 use lib.ListN.{length, getD}
 use Rattle.terms.specs.Bounds.{numbersPerTrade}
 use Rattle.auction.specs.declared.{Trade.Trade}
 use Rattle.auction.specs.Written.{tradesRead}
-use Rattle.lines.specs.Line.{tradeLine, tradeLines}
+use Rattle.lines.specs.Line.{tradeLine}
 use Rattle.lines.specs.Lengths.{tradeRoom, trades-room}
-use Rattle.lines.specs.Put.{Wrote, put-nothing, put-then}
+use Rattle.lines.specs.Put.{Wrote}
+use Rattle.lines.specs.Texts.{WroteAll, all-next}
 
 -- the trade at a place of a lent list
 abbrev pub tradeAt : ℕ → List ℕ → Trade
@@ -39,24 +40,14 @@ read-next (suc k) (b ∷ s ∷ q ∷ p ∷ list) h =
     front : suc k * 4 ≡ suc (suc (suc (suc (k * 4))))
     front = omega arith
 
-lines-append : (ts : List Trade) (t : Trade) → tradeLines (ts ++ (t ∷ [])) ≡ tradeLines ts ++ tradeLine t
-lines-append [] t = append-nil (tradeLine t)
-lines-append (u ∷ ts) t = rw (lines-append ts t) (sym (append-assoc (tradeLine u) (tradeLines ts) (tradeLine t)))
-
 -- the first k trades of the list are written
 abbrev pub WroteTrades : List ℕ → ℕ → List ℕ → List ℕ → ℕ → ℕ → Type 0
-WroteTrades old at list out end k = (length out ≡ length old) × Wrote old out at end (tradeLines (tradesRead k list))
-
-pub trades-start : (old list : List ℕ) (at : ℕ) → at ≤ length old → WroteTrades old at list old at 0
-trades-start old list at h = (refl, (omega arith, put-nothing old at h))
+WroteTrades old at list out end k = WroteAll tradeLine old at (tradesRead k list) out end
 
 pub trades-within : (old list out : List ℕ) (at end k : ℕ) → WroteTrades old at list out end k → end ≤ at + tradeRoom * k
 trades-within old list out at end k s = omega (arith, s .1 .0, trades-room (tradesRead k list), read-few k list)
 
 pub trades-next : (old list out new : List ℕ) (at end r k : ℕ) → at ≤ length old → numbersPerTrade * (k + 1) ≤ length list → length new ≡ length out
     → WroteTrades old at list out end k → Wrote out new end r (tradeLine (tradeAt (k * numbersPerTrade) list)) → WroteTrades old at list new r (k + 1)
-trades-next old list out new at end r k room h l s w = (
-  l ∙ s .0,
-  rw (add-one k, read-next k list h, lines-append (tradesRead k list) (tradeAt (k * numbersPerTrade) list))
-      (put-then old out new at end r (tradeLines (tradesRead k list)) (tradeLine (tradeAt (k * numbersPerTrade) list)) room (s .1) w),
-)
+trades-next old list out new at end r k room h l s w =
+    rw (add-one k, read-next k list h) (all-next tradeLine old out new at end r (tradesRead k list) (tradeAt (k * numbersPerTrade) list) room l s w)

@@ -7,13 +7,17 @@ mod text;
 pub use line::end_line;
 pub use line::fault_line;
 pub use line::line_of;
-pub use line::trade_line;
 pub use line::trade_lines;
 
-// Room that suffices for an answer's line, and for a trade's.
-pub const LINE_ROOM: usize = 134;
+// Room that suffices: for a number of 64 bits behind a space, and for a place, a space and a word of at most 7 bytes.
+const NUMBER_ROOM: usize = 21;
 
-pub const TRADE_ROOM: usize = 69;
+const PLACE_ROOM: usize = 28;
+
+// .. for an answer's line, of at most five numbers, and for a trade's, of three behind a word of 5 bytes.
+pub const LINE_ROOM: usize = PLACE_ROOM + 5 * NUMBER_ROOM + 1;
+
+pub const TRADE_ROOM: usize = 5 + 3 * NUMBER_ROOM + 1;
 
 // What a record of a file was answered.
 pub enum Answer {

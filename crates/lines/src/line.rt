@@ -6,63 +6,35 @@ use crate::text::put_bytes;
 use crate::text::put_decimal;
 use crate::text::put_number;
 use auction::Trade;
-use session::AuctionAnswer;
-ghost use mathlib.Core.List.{_∷_, [], _++_};
+ghost use mathlib.Core.List.{_∷_, _++_};
 ghost use Prim.Native.Nat.{_+_, _*_, _≤_};
 ghost use lib.ListN.{length};
 ghost use Rattle.terms.specs.Bounds.{numbersPerTrade};
 ghost use Rattle.auction.specs.Written.{tradesRead};
-ghost use Rattle.lines.specs.Text.{decimal, space, auctionWord};
+ghost use Rattle.lines.specs.Text.{decimal, space};
 ghost use Rattle.lines.specs.Line.{numbers, placed, lineOf, tradeLine, tradeLines, faultLine, endLine};
-ghost use Rattle.lines.specs.Lengths.{tradeRoom};
+ghost use Rattle.lines.specs.Lengths.{numbersRoom, placeRoom, lineRoom, tradeRoom, faultRoom, endRoom};
 ghost use Rattle.lines.specs.Put.{Wrote};
 
 const NEWLINE: u8 = 10;
 
-// The last number of a line, and the line's end.
-fn put_one(out: &mut [u8], at: usize, x: u64) -> usize
-    requires { ⌜ at + 22 ≤ length (now out) ⌝ }
-    ensures { λ r. ⌜ Wrote (now (out .entry)) (now (out .exit)) at r (numbers (x ∷ [])) ⌝ }
+// Numbers, each behind a space, and the end of the line.
+fn put_numbers(out: &mut [u8], at: usize, xs: &[u64]) -> usize
+    requires { ⌜ at + numbersRoom (length (now xs)) ≤ length (now out) ⌝ }
+    ensures { λ r. ⌜ Wrote (now (out .entry)) (now (out .exit)) at r (numbers (now (xs .entry))) ⌝ }
 {
-    let p = put_number(out, at, x);
-    put_byte(out, p, NEWLINE)
-}
-
-fn put_two(out: &mut [u8], at: usize, x: u64, y: u64) -> usize
-    requires { ⌜ at + 43 ≤ length (now out) ⌝ }
-    ensures { λ r. ⌜ Wrote (now (out .entry)) (now (out .exit)) at r (numbers (x ∷ y ∷ [])) ⌝ }
-{
-    let p = put_number(out, at, x);
-    put_one(out, p, y)
-}
-
-fn put_three(out: &mut [u8], at: usize, x: u64, y: u64, z: u64) -> usize
-    requires { ⌜ at + 64 ≤ length (now out) ⌝ }
-    ensures { λ r. ⌜ Wrote (now (out .entry)) (now (out .exit)) at r (numbers (x ∷ y ∷ z ∷ [])) ⌝ }
-{
-    let p = put_number(out, at, x);
-    put_two(out, p, y, z)
-}
-
-// The numbers of an auction's line: the answer, and the four that it adds.
-fn put_result(out: &mut [u8], at: usize, answer: u8, result: AuctionAnswer) -> usize
-    requires { ⌜ at + 100 ≤ length (now out) ⌝ }
-    ensures { λ r. ⌜ Wrote (now (out .entry)) (now (out .exit)) at r (numbers (answer ∷ result .outcome ∷ result .price ∷ result .quantity ∷ result .count ∷ [])) ⌝ }
-{
-    let p = put_number(out, at, answer as u64);
-    let q = put_number(out, p, result.outcome as u64);
-    put_three(
-        out,
-        q,
-        result.price as u64,
-        result.quantity,
-        result.count as u64,
-    )
+    let mut end = at;
+    let mut i: usize = 0;
+    while i < xs.len() {
+        end = put_number(out, end, xs[i]);
+        i += 1;
+    }
+    put_byte(out, end, NEWLINE)
 }
 
 // A record's place and a word.
 fn put_place(out: &mut [u8], at: usize, place: u64, word: &[u8]) -> usize
-    requires { ⌜ (at + 28 ≤ length (now out)) × (length (now word) ≤ 7) ⌝ }
+    requires { ⌜ (at + placeRoom ≤ length (now out)) × (length (now word) ≤ 7) ⌝ }
     ensures { λ r. ⌜ Wrote (now (out .entry)) (now (out .exit)) at r (decimal place ++ space ∷ now (word .entry)) ⌝ }
 {
     let p = put_decimal(out, at, place);
@@ -70,52 +42,54 @@ fn put_place(out: &mut [u8], at: usize, place: u64, word: &[u8]) -> usize
     put_bytes(out, q, word)
 }
 
-// A line of a record's place, a word and one number.
-fn placed_one(out: &mut [u8], at: usize, place: u64, word: &[u8], x: u64) -> usize
-    requires { ⌜ (at + 50 ≤ length (now out)) × (length (now word) ≤ 7) ⌝ }
-    ensures { λ r. ⌜ Wrote (now (out .entry)) (now (out .exit)) at r (placed place (now (word .entry)) (x ∷ [])) ⌝ }
+// A line of a record's place, a word and numbers.
+fn put_line(out: &mut [u8], at: usize, place: u64, word: &[u8], xs: &[u64]) -> usize
+    requires { ⌜ (at + placeRoom + numbersRoom (length (now xs)) ≤ length (now out)) × (length (now word) ≤ 7) ⌝ }
+    ensures { λ r. ⌜ Wrote (now (out .entry)) (now (out .exit)) at r (placed place (now (word .entry)) (now (xs .entry))) ⌝ }
 {
     let p = put_place(out, at, place, word);
-    put_one(out, p, x)
-}
-
-fn placed_two(out: &mut [u8], at: usize, place: u64, word: &[u8], x: u64, y: u64) -> usize
-    requires { ⌜ (at + 71 ≤ length (now out)) × (length (now word) ≤ 7) ⌝ }
-    ensures { λ r. ⌜ Wrote (now (out .entry)) (now (out .exit)) at r (placed place (now (word .entry)) (x ∷ y ∷ [])) ⌝ }
-{
-    let p = put_place(out, at, place, word);
-    put_two(out, p, x, y)
-}
-
-fn placed_result(out: &mut [u8], at: usize, place: u64, answer: u8, result: AuctionAnswer) -> usize
-    requires { ⌜ at + 128 ≤ length (now out) ⌝ }
-    ensures { λ r. ⌜ Wrote (now (out .entry)) (now (out .exit)) at r (placed place auctionWord (answer ∷ result .outcome ∷ result .price ∷ result .quantity ∷ result .count ∷ [])) ⌝ }
-{
-    let p = put_place(out, at, place, b"auction");
-    put_result(out, p, answer, result)
+    put_numbers(out, p, xs)
 }
 
 // What a record was answered.
 pub fn line_of(out: &mut [u8], at: usize, place: u64, answer: Answer) -> usize
-    requires { ⌜ at + 128 ≤ length (now out) ⌝ }
+    requires { ⌜ at + lineRoom ≤ length (now out) ⌝ }
     ensures { λ r. ⌜ Wrote (now (out .entry)) (now (out .exit)) at r (lineOf place answer) ⌝ }
 {
     match answer {
-        Answer::Start(a) => placed_one(out, at, place, b"start", a as u64),
-        Answer::Order(a, number) => placed_two(out, at, place, b"order", a as u64, number as u64),
-        Answer::Delete(a) => placed_one(out, at, place, b"delete", a as u64),
-        Answer::Auction(a, result) => placed_result(out, at, place, a, result),
+        Answer::Start(a) => {
+            let xs = [a as u64];
+            put_line(out, at, place, b"start", &xs)
+        }
+        Answer::Order(a, number) => {
+            let xs = [a as u64, number as u64];
+            put_line(out, at, place, b"order", &xs)
+        }
+        Answer::Delete(a) => {
+            let xs = [a as u64];
+            put_line(out, at, place, b"delete", &xs)
+        }
+        Answer::Auction(a, r) => {
+            let xs = [
+                a as u64,
+                r.outcome as u64,
+                r.price as u64,
+                r.quantity,
+                r.count as u64,
+            ];
+            put_line(out, at, place, b"auction", &xs)
+        }
     }
 }
 
 // A trade of the auction above.
-pub fn trade_line(out: &mut [u8], at: usize, buy: u32, sell: u32, quantity: u32) -> usize
-    requires { ⌜ at + 64 ≤ length (now out) ⌝ }
+fn trade_line(out: &mut [u8], at: usize, buy: u32, sell: u32, quantity: u32) -> usize
+    requires { ⌜ at + tradeRoom ≤ length (now out) ⌝ }
     ensures { λ r. ⌜ Wrote (now (out .entry)) (now (out .exit)) at r (tradeLine (record { buy = buy; sell = sell; quantity = quantity })) ⌝ }
 {
+    let xs = [buy as u64, sell as u64, quantity as u64];
     let p = put_bytes(out, at, b"trade");
-    let q = put_number(out, p, buy as u64);
-    put_two(out, q, sell as u64, quantity as u64)
+    put_numbers(out, p, &xs)
 }
 
 // The trades that stand in a lent list, four numbers each.
@@ -135,17 +109,19 @@ pub fn trade_lines(out: &mut [u8], at: usize, list: &[u32], count: usize) -> usi
 
 // The record at which the walk ended.
 pub fn fault_line(out: &mut [u8], at: usize, place: u64) -> usize
-    requires { ⌜ at + 50 ≤ length (now out) ⌝ }
+    requires { ⌜ at + faultRoom ≤ length (now out) ⌝ }
     ensures { λ r. ⌜ Wrote (now (out .entry)) (now (out .exit)) at r (faultLine place) ⌝ }
 {
-    placed_one(out, at, place, b"fault", 1)
+    let xs = [1u64];
+    put_line(out, at, place, b"fault", &xs)
 }
 
 // How many records were answered.
 pub fn end_line(out: &mut [u8], at: usize, count: u64) -> usize
-    requires { ⌜ at + 25 ≤ length (now out) ⌝ }
+    requires { ⌜ at + endRoom ≤ length (now out) ⌝ }
     ensures { λ r. ⌜ Wrote (now (out .entry)) (now (out .exit)) at r (endLine count) ⌝ }
 {
+    let xs = [count];
     let p = put_bytes(out, at, b"end");
-    put_one(out, p, count)
+    put_numbers(out, p, &xs)
 }

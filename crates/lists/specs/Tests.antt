@@ -1,5 +1,5 @@
 -- Tests as facts: `T b` says that the test b passes.
-use mathlib.Core.Bool.{Bool, true, false, not, _&&_, _||_}
+use mathlib.Core.Bool.{Bool, true, false, not, _&&_, _||_, true≢false}
 use mathlib.Core.Logic.{_⊎_, inl, inr, ⊎-map}
 use mathlib.Core.Path.{_≡_, refl}
 use Prim.Native.Nat.{ℕ}
@@ -16,6 +16,11 @@ decided false = inr tt
 pub passes : (b : Bool) → T b → b ≡ true
 passes true h = refl
 passes false h = absurd h
+
+-- a test passes where its opposite fails
+pub test-holds : (b : Bool) → not b ≡ false → T b
+test-holds true e = tt
+test-holds false e = absurd (true≢false e)
 
 -- tests that pass together are one
 pub same-test : (a b : Bool) → (T a → T b) → (T b → T a) → a ≡ b

@@ -5,3 +5,4 @@ mod weigh;
 pub use search::Found;
 pub use search::searched;
 pub use search::sum_below;
+pub use weigh::apart;

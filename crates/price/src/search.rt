@@ -2,8 +2,8 @@
 // what a side offers at a price is a sum of its first orders; every candidate is weighed against the best so far.
 use crate::weigh::Weighed;
 use crate::weigh::apart;
+use crate::weigh::executable;
 use crate::weigh::first;
-use crate::weigh::smaller;
 use crate::weigh::weigh;
 use terms::Limit;
 use terms::Side;
@@ -126,7 +126,7 @@ pub fn searched<'a>(
 {
     let demand = offer(Side::Buy, reference, buys, buy_sums);
     let supply = offer(Side::Sell, reference, sells, sell_sums);
-    let alone = first(reference, smaller(demand, supply), apart(demand, supply));
+    let alone = first(reference, executable(demand, supply), apart(demand, supply));
     let bid = weigh_limits(
         alone,
         reference,

@@ -22,10 +22,11 @@ pub fn apart(a: u64, b: u64) -> u64
     if a <= b { b - a } else { a - b }
 }
 
-pub fn smaller(a: u64, b: u64) -> u64
-    ensures { λ r. ⌜ r ≡ min a b ⌝ }
+// Executable is the smaller of demand and supply.
+pub fn executable(demand: u64, supply: u64) -> u64
+    ensures { λ r. ⌜ r ≡ min demand supply ⌝ }
 {
-    if a <= b { a } else { b }
+    if demand <= supply { demand } else { supply }
 }
 
 fn higher(a: u32, b: u32) -> u32
@@ -81,7 +82,7 @@ fn joined(w: Weighed, reference: u32, price: u32) -> Weighed
 pub fn weigh(w: Weighed, reference: u32, price: u32, demand: u64, supply: u64) -> Weighed
     ensures { λ r. ⌜ r ≡ weighed reference price demand supply w ⌝ }
 {
-    let most = smaller(demand, supply);
+    let most = executable(demand, supply);
     let least = apart(demand, supply);
     if (w.most < most) | ((most == w.most) & (least < w.least)) {
         return first(price, most, least);

@@ -21,7 +21,8 @@ fn left_at(lefts: &[u32; 512], r: u64) -> u32
     lefts[place]
 }
 
-fn least(total: u64, left: u32) -> u32
+// What an order gets of a total: all that it has open, or what there is.
+fn share_of(total: u64, left: u32) -> u32
     ensures { λ r. ⌜ r ≡ min total left ⌝ }
 {
     if total <= left as u64 {
@@ -64,7 +65,7 @@ pub fn share_out<'a>(total: u64, ranks: &'a [u64], lefts: &'a [u32; 512], list: 
         if rest == 0 {
             return i;
         }
-        let share = least(rest, left_at(lefts, ranks[i]));
+        let share = share_of(rest, left_at(lefts, ranks[i]));
         list[i] = share;
         rest -= share as u64;
         i += 1;

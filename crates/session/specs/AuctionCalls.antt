@@ -8,6 +8,7 @@ use native.Mathlib.Omega.{arith}
 use borrow.Author.Tests.{ltb-false}
 use lib.Dec.{T}
 use lib.ListN.{length, drop}
+use Rattle.lists.specs.Tests.{test-holds}
 use Rattle.terms.specs.Bounds.{places, tradeListLength}
 use Rattle.terms.specs.Orders.{isAuction, auctionOf}
 use Rattle.terms.specs.Made.{auction-made}
@@ -25,11 +26,12 @@ use Rattle.auction.specs.Trading.{ranksOn, outcomeIn, tradesIn, restsIn}
 use Rattle.auction.specs.OutcomeIn.{outcome-in}
 use Rattle.auction.specs.TradesIn.{trades-in, rests-in}
 use Rattle.auction.specs.Written.{quadruples}
-use Rattle.session.specs.declared.{Phase.Phase, Session.Session, AuctionAnswer.AuctionAnswer}
-use Rattle.session.specs.Phases.{hasStarted, phaseAfter}
-use Rattle.session.specs.Checks.{firstHit}
-use Rattle.session.specs.Exactly.{none-hit}
-use Rattle.session.specs.Sound.{Sound, test-holds}
+use Rattle.refusals.specs.declared.phases.{Phase.Phase}
+use Rattle.session.specs.declared.{Session.Session, AuctionAnswer.AuctionAnswer}
+use Rattle.refusals.specs.Phases.{hasStarted, phaseAfter}
+use Rattle.refusals.specs.Checks.{firstHit}
+use Rattle.refusals.specs.Exactly.{none-hit}
+use Rattle.session.specs.Sound.{Sound}
 use Rattle.session.specs.Auctions.{part, outcomeOf, answerOf, delayGiven, auctionChecks, auctionLeaves, auctionRefused, auctionDone, auctionAnswer, auctioned, theoreticalChecks, theoreticalAnswer, theoretical, noAnswer}
 
 -- the four numbers of an outcome with its trades counted

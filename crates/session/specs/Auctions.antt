@@ -13,9 +13,11 @@ use Rattle.auction.specs.declared.{Trade.Trade, Outcome.Outcome, Outcome.the-va
 use Rattle.auction.specs.Outcome.{outcome, trades, outcomeNumber, priceAnswered, quantityAnswered, countAnswered}
 use Rattle.auction.specs.After.{restOf}
 use Rattle.auction.specs.Written.{written}
-use Rattle.session.specs.declared.{Phase.Phase, Session.Session, AuctionAnswer.AuctionAnswer, Auctioned.Auctioned, Foreseen.Foreseen}
-use Rattle.session.specs.Phases.{hasStarted, allowsAuction, phaseAfter}
-use Rattle.session.specs.Checks.{check, Check, firstHit}
+use Rattle.refusals.specs.declared.phases.{Phase.Phase}
+use Rattle.session.specs.declared.{Session.Session, AuctionAnswer.AuctionAnswer, Auctioned.Auctioned, Foreseen.Foreseen}
+use Rattle.refusals.specs.Phases.{hasStarted, allowsAuction, phaseAfter}
+use Rattle.refusals.specs.Checks.{Check, firstHit}
+use Rattle.refusals.specs.Rows.{auctionRows, theoreticalRows}
 
 -- the orders taking part, the outcome at this moment, and its trades
 abbrev pub part : Session → Auction → List Order
@@ -64,20 +66,8 @@ sessionAfter s a book NonOpening = s
 sessionAfter s a book (Delayed price quantity) = delayGiven s
 
 -- Auction: 1, 2, 4, 12.
-abbrev pub auctionRows : Phase → ℕ → ℕ → List Check
-auctionRows phase which size =
-    check 1 (not (isAuction which))
-    ∷ check 2 (not (hasStarted phase))
-    ∷ check 4 (not (allowsAuction phase which))
-    ∷ check 12 (ltb size tradeListLength)
-    ∷ []
-
 abbrev pub auctionChecks : Session → ℕ → ℕ → List Check
 auctionChecks s which size = auctionRows (s .phase) which size
-
--- the checks that the auction and the theoretical answer share, in front of what a later one gives
-abbrev pub auctionRefusal : Phase → ℕ → ℕ → ℕ
-auctionRefusal phase which later = cond (not (isAuction which)) 1 (cond (not (hasStarted phase)) 2 (cond (not (allowsAuction phase which)) 4 later))
 
 -- what the call returns, and the lent list as it leaves it
 pub record AuctionLeaves : Type 0 where
@@ -105,13 +95,6 @@ unfoldable pub auctioned : Session → ℕ → List ℕ → AuctionLeaves
 auctioned s which list = auctionAnswer (firstHit (auctionChecks s which (length list))) (auctionOf which) s list
 
 -- Theoretical answer: 1, 2, 4. The same four numbers with no change.
-abbrev pub theoreticalRows : Phase → ℕ → List Check
-theoreticalRows phase which =
-    check 1 (not (isAuction which))
-    ∷ check 2 (not (hasStarted phase))
-    ∷ check 4 (not (allowsAuction phase which))
-    ∷ []
-
 abbrev pub theoreticalChecks : Session → ℕ → List Check
 theoreticalChecks s which = theoreticalRows (s .phase) which
 

@@ -10,17 +10,23 @@ use Rattle.terms.specs.Orders.{orderOf}
 use Rattle.terms.specs.Made.{entry-asks}
 use Rattle.terms.specs.declared.orders.{Order.Order, OrderMade.OrderMade, Entry.Entry}
 use Rattle.book.specs.declared.Book.{Book}
-use Rattle.book.specs.Places.{lowestFree}
+use Rattle.book.specs.Places.{lowestFree, countTaken}
 use Rattle.book.specs.Columns.{stored, cleared}
 use Rattle.book.specs.Resting.{placeOf, isOf, placeIn, place-in}
 use Rattle.book.specs.Rests.{any-resting}
 use Rattle.session.specs.declared.{Session.Session}
-use Rattle.session.specs.Checks.{firstHit}
-use Rattle.session.specs.Entry.{orderChecks, orderAnswer, entered, order-refused, deleteRows, deleteChecks, deleteAnswer, deleted, delete-refused}
-use Rattle.session.specs.Exactly.{none-hit}
+use Rattle.refusals.specs.Checks.{firstHit}
+use Rattle.refusals.specs.Rows.{orderRows, deleteRows}
+use Rattle.session.specs.Entry.{orderChecks, orderAnswer, entered, order-refused, deleteChecks, deleteAnswer, deleted, delete-refused}
+use Rattle.refusals.specs.Exactly.{none-hit}
 use Rattle.session.specs.Sound.{accepted, found-place}
 
 module _ (s : Session) (e : Entry) where
+  -- the refusal that the code finds, from the count of taken places
+  pub order-hit : {n taken : ℕ} → n ≡ firstHit (orderRows (s .phase) (s .parameters) (s .reference) (s .given) taken e) → taken ≡ countTaken (s .book .taken)
+      → n ≡ firstHit (orderChecks s e)
+  order-hit h k = rw k at h
+
   pub order-turned-down : {n : ℕ} → n ≡ firstHit (orderChecks s e) → n ≢ 0 → record { answer = n; number = 0; session = s } ≡ entered s e
   unfolding entered
   order-turned-down {n} h k = sym (order-refused n s e k) ∙ ap (λ (m : ℕ). orderAnswer m s e) h

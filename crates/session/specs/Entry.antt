@@ -16,10 +16,11 @@ use Rattle.book.specs.declared.Book.{Book}
 use Rattle.book.specs.Places.{lowestFree, countTaken}
 use Rattle.book.specs.Columns.{emptyBook, stored, cleared}
 use Rattle.book.specs.Resting.{resting, placeOf, isOf}
-use Rattle.session.specs.declared.{Session.Session, Phase.Phase, Started.Started, Entered.Entered, Deleted.Deleted, Phase.the-variants.Fresh, Phase.the-variants.PreOpening}
-use Rattle.session.specs.Phases.{hasStarted, allowsOrder}
-use Rattle.session.specs.Checks.{check, Check, firstHit}
-use Rattle.session.specs.Controls.{controlReference, offStep, reachesCollar, reachesMost, reachesMostAtReference}
+use Rattle.refusals.specs.declared.phases.{Phase.Phase, Phase.the-variants.Fresh, Phase.the-variants.PreOpening}
+use Rattle.session.specs.declared.{Session.Session, Started.Started, Entered.Entered, Deleted.Deleted}
+use Rattle.refusals.specs.Phases.{hasStarted, allowsOrder}
+use Rattle.refusals.specs.Checks.{Check, firstHit}
+use Rattle.refusals.specs.Rows.{startRows, orderRows, deleteRows}
 
 -- a session that has not started: every number 0, the book empty
 abbrev pub freshSession : Session
@@ -34,10 +35,7 @@ freshSession = record {
 
 -- Start: 1, 3.
 abbrev pub startChecks : Session → Parameters → List Check
-startChecks s p =
-    check 1 (not (areParameters (p .step) (p .reference) (p .factor) (p .threshold) (p .most)))
-    ∷ check 3 (hasStarted (s .phase))
-    ∷ []
+startChecks s p = startRows (s .phase) p
 
 -- start leads to pre-opening, with its reference price in force
 abbrev pub startedSession : Session → Parameters → Session
@@ -57,19 +55,13 @@ startAnswer (suc n) s p = record { answer = suc n; session = s }
 unfoldable pub started : Session → Parameters → Started
 started s p = startAnswer (firstHit (startChecks s p)) s p
 
+-- the reference price that the controls use: the one in force
+abbrev pub controlReference : Session → ℕ
+controlReference s = s .reference
+
 -- Order: 1, 2, 4, 5, 6, 7, 8, 9, 10.
 abbrev pub orderChecks : Session → Entry → List Check
-orderChecks s e =
-    check 1 (not (isEntry e))
-    ∷ check 2 (not (hasStarted (s .phase)))
-    ∷ check 4 (not (allowsOrder (s .phase) (e .validity)))
-    ∷ check 5 (offStep (s .parameters .step) (e .limit))
-    ∷ check 6 (reachesCollar (controlReference s) (s .parameters .factor) (e .limit))
-    ∷ check 7 (reachesMost (s .parameters .most) (e .quantity) (e .limit))
-    ∷ check 8 (reachesMostAtReference (s .parameters .most) (e .quantity) (controlReference s))
-    ∷ check 9 (leb maxNumber (s .given))
-    ∷ check 10 (eqb (countTaken (s .book .taken)) places)
-    ∷ []
+orderChecks s e = orderRows (s .phase) (s .parameters) (controlReference s) (s .given) (countTaken (s .book .taken)) e
 
 -- an accepted order takes the next number and the lowest free place
 abbrev pub bookWith : Book → OrderMade → Book
@@ -94,13 +86,6 @@ unfoldable pub entered : Session → Entry → Entered
 entered s e = orderAnswer (firstHit (orderChecks s e)) s e
 
 -- Delete: 1, 2, 11.
-abbrev pub deleteRows : Phase → ℕ → ℕ → Bool → List Check
-deleteRows phase number member absent =
-    check 1 (not (isNumber number && isMember member))
-    ∷ check 2 (not (hasStarted phase))
-    ∷ check 11 absent
-    ∷ []
-
 abbrev pub deleteChecks : Session → ℕ → ℕ → List Check
 deleteChecks s number member = deleteRows (s .phase) number member (not (any (isOf number member) (resting (s .book))))
 

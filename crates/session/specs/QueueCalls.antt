@@ -16,8 +16,8 @@ use Rattle.book.specs.Columns.{orderAt}
 use Rattle.queue.specs.Ranks.{placeOfRank, along}
 use Rattle.queue.specs.Rank.{ranked}
 use Rattle.session.specs.declared.{Session.Session}
-use Rattle.session.specs.Checks.{firstHit}
-use Rattle.session.specs.Exactly.{none-hit}
+use Rattle.refusals.specs.Checks.{firstHit}
+use Rattle.refusals.specs.Exactly.{none-hit}
 use Rattle.session.specs.Auctions.{part}
 use Rattle.session.specs.Queues.{rankedChecks, queueLeaves, queueRefused, rankedNumbers, rankedAnswer, queued}
 

@@ -14,20 +14,15 @@ use Rattle.terms.specs.Made.{side-made}
 use Rattle.terms.specs.declared.orders.{Side.Side, Side.the-variants.Buy, Side.the-variants.Sell, SideMade.SideMade, Auction.Auction, AuctionMade.AuctionMade}
 use Rattle.queue.specs.Rank.{ranked}
 use Rattle.queue.specs.Front.{front, front-longest}
-use Rattle.session.specs.declared.{Phase.Phase, Session.Session, Queued.Queued}
-use Rattle.session.specs.Phases.{hasStarted}
-use Rattle.session.specs.Checks.{check, Check, firstHit}
-use Rattle.session.specs.Exactly.{none-hit}
+use Rattle.refusals.specs.declared.phases.{Phase.Phase}
+use Rattle.session.specs.declared.{Session.Session, Queued.Queued}
+use Rattle.refusals.specs.Phases.{hasStarted}
+use Rattle.refusals.specs.Checks.{Check, firstHit}
+use Rattle.refusals.specs.Rows.{rankedRows, frontRows}
+use Rattle.refusals.specs.Exactly.{none-hit}
 use Rattle.session.specs.Auctions.{part}
 
 -- Ranked queue: 1, 2, 12.
-abbrev pub rankedRows : Phase → ℕ → ℕ → ℕ → List Check
-rankedRows phase side which size =
-    check 1 (not (isSide side && isAuction which))
-    ∷ check 2 (not (hasStarted phase))
-    ∷ check 12 (ltb size places)
-    ∷ []
-
 abbrev pub rankedChecks : Session → ℕ → ℕ → ℕ → List Check
 rankedChecks s side which size = rankedRows (s .phase) side which size
 
@@ -60,7 +55,7 @@ queued s side which list = rankedAnswer (firstHit (rankedChecks s side which (le
 
 -- Filled front: 1, where either list is longer than the book, or for another side.
 abbrev pub frontChecks : List ℕ → List ℕ → ℕ → List Check
-frontChecks buys sells side = check 1 (ltb places (length buys) || ltb places (length sells) || not (isSide side)) ∷ []
+frontChecks buys sells side = frontRows (length buys) (length sells) side
 
 pub record FrontAnswer : Type 0 where
   pub answer : ℕ

@@ -5,7 +5,7 @@ use mathlib.Core.Path.{_≡_, refl, sym, subst, _∙_}
 use native.Mathlib.Omega.{arith}
 use borrow.Author.Tests.{leb-false, eqb-false, not-false, ltb-true}
 use lib.Dec.{T}
-use Rattle.lists.specs.Tests.{and-intro}
+use Rattle.lists.specs.Tests.{test-holds, and-intro}
 use Rattle.lists.specs.Choice.{any}
 use Rattle.terms.specs.Bounds.{places, maxNumber}
 use Rattle.terms.specs.Kinds.{isStep, isPrice, isMultiple, isReference, isFactor, isThreshold, isOrderValue}
@@ -19,11 +19,12 @@ use Rattle.book.specs.Words.{lowest-free-room}
 use Rattle.book.specs.Resting.{resting, placeOf, isOf}
 use Rattle.book.specs.Rests.{any-resting}
 use Rattle.book.specs.Sound.{SoundOrder, SoundBook, empty-sound, stored-sound, cleared-sound}
-use Rattle.session.specs.declared.{Session.Session, Phase.Phase, Phase.the-variants.Fresh, Phase.the-variants.PreOpening, Phase.the-variants.Day, Phase.the-variants.Closed}
-use Rattle.session.specs.Phases.{hasStarted}
-use Rattle.session.specs.Checks.{firstHit}
-use Rattle.session.specs.Exactly.{none-hit}
-use Rattle.session.specs.Controls.{offStep}
+use Rattle.refusals.specs.declared.phases.{Phase.Phase, Phase.the-variants.Fresh, Phase.the-variants.PreOpening, Phase.the-variants.Day, Phase.the-variants.Closed}
+use Rattle.session.specs.declared.{Session.Session}
+use Rattle.refusals.specs.Phases.{hasStarted}
+use Rattle.refusals.specs.Checks.{firstHit}
+use Rattle.refusals.specs.Exactly.{none-hit}
+use Rattle.refusals.specs.Controls.{offStep}
 use Rattle.session.specs.Entry.{freshSession, started, startAnswer, startChecks, entered, orderAnswer, orderChecks, deleted, deleteAnswer, deleteChecks}
 
 pub record Sound (s : Session) : Type 0 where
@@ -49,10 +50,6 @@ not-started Fresh e = refl
 not-started PreOpening e = absurd (true≢false e)
 not-started Day e = absurd (true≢false e)
 not-started Closed e = absurd (true≢false e)
-
-pub test-holds : (b : Bool) → not b ≡ false → T b
-test-holds true e = tt
-test-holds false e = absurd (true≢false e)
 
 reference-of : (a b c d e : Bool) → T (a && b && c && d && e) → T b
 reference-of true true c d e h = tt

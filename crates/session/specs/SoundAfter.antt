@@ -5,6 +5,7 @@ use mathlib.Core.List.{List}
 use native.Mathlib.Omega.{arith}
 use lib.Dec.{T}
 use lib.ListN.{length}
+use Rattle.lists.specs.Tests.{test-holds}
 use Rattle.terms.specs.Kinds.{isReference}
 use Rattle.terms.specs.Orders.{auctionOf}
 use Rattle.terms.specs.declared.orders.{Auction.Auction, Auction.the-variants.Opening, Auction.the-variants.Closing, AuctionMade.AuctionMade}
@@ -17,11 +18,12 @@ use Rattle.auction.specs.declared.{Trade.Trade, Outcome.Outcome, Outcome.the-va
 use Rattle.auction.specs.Outcome.{trades, outcome-traded}
 use Rattle.auction.specs.After.{restOf}
 use Rattle.auction.specs.Settled.{rest-keeps}
-use Rattle.session.specs.declared.{Session.Session, Phase.the-variants.Fresh}
-use Rattle.session.specs.Phases.{hasStarted, phaseAfter}
-use Rattle.session.specs.Checks.{firstHit}
-use Rattle.session.specs.Exactly.{none-hit}
-use Rattle.session.specs.Sound.{Sound, test-holds}
+use Rattle.refusals.specs.declared.phases.{Phase.the-variants.Fresh}
+use Rattle.session.specs.declared.{Session.Session}
+use Rattle.refusals.specs.Phases.{hasStarted, phaseAfter}
+use Rattle.refusals.specs.Checks.{firstHit}
+use Rattle.refusals.specs.Exactly.{none-hit}
+use Rattle.session.specs.Sound.{Sound}
 use Rattle.session.specs.Auctions.{part, outcomeOf, closedOut, sessionAfter, auctionChecks, auctionAnswer, auctioned}
 
 later-phase : (a : Auction) → phaseAfter a ≡ Fresh → ⊥

@@ -1,9 +1,9 @@
 // An auction in a session: its outcome at this moment, and what it leaves (01 "Outcomes").
 use crate::AuctionAnswer;
 use crate::Auctioned;
-use crate::Phase;
 use crate::Session;
 use auction::Outcome;
+use refusals::phase_after;
 use terms::Auction;
 use terms::Side;
 ghost use mathlib.Core.Path.{_≡_};
@@ -15,7 +15,7 @@ ghost use Rattle.terms.specs.Bounds.{tradeListLength};
 ghost use Rattle.terms.specs.declared.orders.{Side.the-variants.Buy, Side.the-variants.Sell};
 ghost use Rattle.auction.specs.Trading.{ranksOn};
 ghost use Rattle.auction.specs.Written.{quadruples};
-ghost use Rattle.session.specs.Phases.{hasStarted, phaseAfter};
+ghost use Rattle.refusals.specs.Phases.{hasStarted};
 ghost use Rattle.session.specs.Auctions.{part, outcomeOf, answerOf, delayGiven, noAnswer, auctionLeaves, auctionDone};
 ghost use Rattle.session.specs.AuctionCalls.{answerWith, tradesBy, closedBy};
 ghost use Rattle.session.specs.Sound.{Sound};
@@ -31,16 +31,6 @@ pub struct Outlook {
 pub struct Close {
     pub session: Session,
     pub count: u32,
-}
-
-// An opening auction leads to day, a closing auction to closed.
-fn phase_after(auction: Auction) -> Phase
-    ensures { λ r. ⌜ r ≡ phaseAfter auction ⌝ }
-{
-    match auction {
-        Auction::Opening => Phase::Day,
-        Auction::Closing => Phase::Closed,
-    }
 }
 
 pub fn no_answer() -> AuctionAnswer

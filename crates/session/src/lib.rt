@@ -1,9 +1,9 @@
 // A session for one security: phases and the seven public calls, in the words of 01. A session goes in by value and
 // comes back by value.
 mod auctions;
-mod checks;
 
 use book::Book;
+use refusals::Phase;
 use terms::Auction;
 use terms::AuctionMade;
 use terms::Entry;
@@ -19,13 +19,6 @@ ghost use Rattle.session.specs.Entry.{freshSession, started as Entry·st
 ghost use Rattle.session.specs.Auctions.{auctionLeaves, auctioned as Auctions·auctioned, theoretical as Auctions·theoretical};
 ghost use Rattle.session.specs.Queues.{queueLeaves, queued as Queues·queued, filledFront, frontAnswered};
 ghost use Rattle.session.specs.Sound.{Sound};
-
-pub enum Phase {
-    Fresh,
-    PreOpening,
-    Day,
-    Closed,
-}
 
 pub struct Session {
     pub phase: Phase,
@@ -119,7 +112,7 @@ impl Session {
             };
         };
         let phase = self.phase;
-        if checks::has_started(phase) {
+        if refusals::has_started(phase) {
             return Started {
                 answer: 3,
                 session: self,
@@ -142,7 +135,17 @@ impl Session {
         requires { ⌜ Sound self ⌝ }
         ensures { λ r. ⌜ r ≡ Entry·entered self e ⌝ }
     {
-        let answer = self.order_refusal(e);
+        let phase = self.phase;
+        let parameters = self.parameters;
+        let taken = self.book.taken;
+        let answer = refusals::order_refusal(
+            phase,
+            parameters,
+            self.reference,
+            self.given,
+            book::count_taken(taken),
+            e,
+        );
         if answer != 0 {
             return Entered {
                 answer,
@@ -159,10 +162,7 @@ impl Session {
                 session: self,
             };
         };
-        let phase = self.phase;
-        let parameters = self.parameters;
         let old = self.book;
-        let taken = old.taken;
         let place = book::lowest_free(taken);
         let book = old.stored(place, o);
         let session = Session {
@@ -193,7 +193,7 @@ impl Session {
             number,
             member,
         );
-        let answer = checks::delete_refusal(phase, number, member, place);
+        let answer = refusals::delete_refusal(phase, number, member, place);
         if answer != 0 {
             return Deleted {
                 answer,
@@ -220,7 +220,7 @@ impl Session {
         ensures { λ r. ⌜ auctionLeaves r (now (list .exit)) ≡ Auctions·auctioned self which (now (list .entry)) ⌝ }
     {
         let phase = self.phase;
-        let answer = checks::auction_refusal(phase, which, list.len());
+        let answer = refusals::auction_refusal(phase, which, list.len());
         if answer != 0 {
             return Auctioned {
                 answer,
@@ -251,7 +251,7 @@ impl Session {
         ensures { λ r. ⌜ r ≡ Auctions·theoretical self which ⌝ }
     {
         let phase = self.phase;
-        let answer = checks::theoretical_refusal(phase, which);
+        let answer = refusals::theoretical_refusal(phase, which);
         if answer != 0 {
             return Foreseen {
                 answer,
@@ -277,7 +277,7 @@ impl Session {
         ensures { λ r. ⌜ queueLeaves r (now (list .exit)) ≡ Queues·queued self side which (now (list .entry)) ⌝ }
     {
         let phase = self.phase;
-        let answer = checks::ranked_refusal(phase, side, which, list.len());
+        let answer = refusals::ranked_refusal(phase, side, which, list.len());
         if answer != 0 {
             return Queued { answer, count: 0 };
         }
@@ -322,7 +322,7 @@ pub fn filled_front<'a>(
 ) -> &'a [u64]
     ensures { λ r. ⌜ frontAnswered (now (answer .exit)) (now r) ≡ filledFront (now (buys .entry)) (now (sells .entry)) side total ⌝ }
 {
-    let refusal = checks::front_refusal(buys, sells, side);
+    let refusal = refusals::front_refusal(buys.len(), sells.len(), side);
     *answer = refusal;
     if refusal != 0 {
         return &buys[..0];

@@ -11,7 +11,7 @@ use Rattle.auction.specs.declared.{Trade.Trade}
 use Rattle.auction.specs.Outcome.{priceAnswered}
 use Rattle.auction.specs.Written.{tradesRead, trades-back}
 use Rattle.session.specs.declared.{Session.Session, Auctioned.Auctioned}
-use Rattle.session.specs.Checks.{firstHit}
+use Rattle.refusals.specs.Checks.{firstHit}
 use Rattle.session.specs.Auctions.{AuctionLeaves, outcomeOf, tradesNow, auctionChecks, auctionLeaves, auctionDone, auctionAnswer, auctioned}
 use Rattle.records.specs.declared.{Record.Record}
 use Rattle.transcript.specs.Transcript.{Step, step, auctionStep, lent, tradesAnswered}

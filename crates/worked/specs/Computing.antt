@@ -14,7 +14,7 @@ use Rattle.auction.specs.Trades.{traded}
 use Rattle.auction.specs.Fills.{fills, tradesOf}
 use Rattle.auction.specs.Outcome.{nonOpening, outcome}
 use Rattle.auction.specs.After.{restOf}
-use Rattle.session.specs.Checks.{firstHit}
+use Rattle.refusals.specs.Checks.{firstHit}
 use Rattle.session.specs.Entry.{started, entered, deleted}
 use Rattle.session.specs.Auctions.{outcomeOf, auctioned, theoretical}
 use Rattle.session.specs.Queues.{queued, filledFront}

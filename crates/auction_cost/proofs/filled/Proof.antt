@@ -26,7 +26,9 @@ order-requires : tie.Need-order-requires Inv-loop μ-loop
 order-requires c κs = c .before .before .loop .inv .0
 
 next-requires : tie.Need-next-requires Inv-loop μ-loop
-next-requires c κs = c .before .before .before .before .loop .inv .1
+next-requires c κs =
+    let loop = c .before .before .before .before .loop in
+    loop .inv .1
 
 add-i : tie.Need-add-i Inv-loop μ-loop
 add-i c = omega arith
@@ -35,11 +37,12 @@ loop-less : tie.Need-loop-less Inv-loop μ-loop
 loop-less c = omega arith
 
 loop-again : tie.Need-loop-again Inv-loop μ-loop
-loop-again c = (
-  subst (λ (r : Entered). Sound (r .session)) (sym (c .before .before .order .ensures))
-      (entered-sound _ _ (c .before .before .before .before .before .loop .inv .0)),
-  c .next .ensures,
-)
+loop-again c =
+    let loop = c .before .before .before .before .before .loop in (
+      subst (λ (r : Entered). Sound (r .session)) (sym (c .before .before .order .ensures))
+          (entered-sound _ _ (loop .inv .0)),
+      c .next .ensures,
+    )
 
 returns : tie.Need-returns Inv-loop μ-loop
 returns c = c .before .loop .inv .0

@@ -33,8 +33,9 @@ loop-less c = omega arith
 
 loop-again : tie.Need-loop-again Inv-loop μ-loop
 loop-again c =
+    let loop = c .before .before .before .before .loop in
     subst (λ (r : Entered). Sound (r .session)) (sym (c .before .order .ensures))
-    (entered-sound _ _ (c .before .before .before .before .loop .inv))
+    (entered-sound _ _ (loop .inv))
 
 returns : tie.Need-returns Inv-loop μ-loop
 returns c = c .before .loop .inv

@@ -17,8 +17,10 @@ same-length c = search needs
 
 returns : tie.Need-returns
 returns c =
-    subst (λ (r : AuctionLeaves). Sound (r .returned .session)) (sym (c .before .before .before .before .auction .ensures))
-    (auctioned-sound _ _ _ (c .before .before .before .before .before .before .before .pre))
+    let pre = c .before .before .before .before .before .before .before .pre in
+    let auction = c .before .before .before .before .auction in
+    subst (λ (r : AuctionLeaves). Sound (r .returned .session)) (sym (auction .ensures))
+    (auctioned-sound _ _ _ (pre))
 
 pub held-spec : {M : Type 1} → statement M
 held-spec = tie.close (tie.spec auction-requires put-answer-requires same-length returns)

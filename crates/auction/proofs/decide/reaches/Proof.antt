@@ -1,28 +1,23 @@
--- Either way round, what the price and the reference price are apart.
-use mathlib.Core.Logic.{⊎-elim}
-use mathlib.Core.Path.{_≡_}
 use native.Mathlib.Omega.{arith}
 use borrow.Author.Needs.{needs}
-use Rattle.lists.specs.Sums.{apart}
+use Rattle.lists.specs.Sums.{apart-le}
 use Rattle.auction.proofs.decide.reaches.Statement.{statement}
 use Rattle.auction.proofs.decide.reaches.Tie as tie
 
-sub-apart : tie.Need-sub-apart
-sub-apart c = search needs
+apart-requires : tie.Need-apart-requires
+apart-requires c κs = search needs
 
-of-requires : tie.Need-of-requires
-of-requires c κs = search needs
+product-requires : tie.Need-product-requires
+product-requires c κs = search needs
 
+-- two prices are no further apart than either is high
 mul-result : tie.Need-mul-result
-mul-result c = search needs
+mul-result c =
+    let a = c .before .before .args in
+    omega (arith, c .before .apart .ensures, apart-le (a .price) (a .reference) 4294967295 (omega arith) (omega arith))
 
 returns : tie.Need-returns
-unfolding apart
-returns c =
-    let j = c .before .before in
-    let s = j .before .args in
-    let e : j .if1 .apart ≡ apart (s .price) (s .reference) = ⊎-elim (λ w. omega (arith, w .0 .taken, w .1)) (λ w. omega (arith, w .0 .left, w .1)) (j .if1 .came) in
-    rw (c .before .of .ensures, e)
+returns c = rw (c .product .ensures, c .before .apart .ensures)
 
 pub reaches-spec : {M : Type 1} → statement M
-reaches-spec = tie.close (tie.spec sub-apart of-requires mul-result returns)
+reaches-spec = tie.close (tie.spec apart-requires product-requires mul-result returns)

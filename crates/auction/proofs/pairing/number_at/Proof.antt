@@ -23,7 +23,8 @@ element-copy-out-result : tie.Need-element-copy-out-result
 element-copy-out-result c = search needs
 
 returns : tie.Need-returns
-returns c = let a = c .before .before .before .before in rw (c .before .place-of-rank .ensures .0) (sym (getD-map (λ r. getD (a .args .numbers .now) (placeOfRank r) 0) (a .args .ranks .now) (a .args .i) (a .pre)))
+returns c =
+    let a = c .before .before .before .before in rw (c .before .place-of-rank .ensures .0) (sym (getD-map (λ r. getD (a .args .numbers .now) (placeOfRank r) 0) (a .args .ranks .now) (a .args .i) (a .pre)))
 
 pub number-at-spec : {M : Type 1} → statement M
 number-at-spec =

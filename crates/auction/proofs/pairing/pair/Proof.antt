@@ -40,8 +40,8 @@ loop-holds c = rw (c .before .share-at .ensures, c .share-at2 .ensures) (state-s
 going-requires : tie.Need-going-requires Inv-loop μ-loop
 going-requires c κs = search needs
 
-least-requires : tie.Need-least-requires Inv-loop μ-loop
-least-requires c κs = search needs
+smaller-requires : tie.Need-smaller-requires Inv-loop μ-loop
+smaller-requires c κs = search needs
 
 number-at-requires : tie.Need-number-at-requires Inv-loop μ-loop
 number-at-requires c κs = omega (arith, on (c .before) .0, start (c .before .before .before) .pre .0)
@@ -53,10 +53,14 @@ write-trade-requires : tie.Need-write-trade-requires Inv-loop μ-loop
 write-trade-requires c κs = omega (arith, on (c .before .before .before .before) .2, start (c .before .before .before .before .before .before) .pre .2)
 
 advanced-requires : tie.Need-advanced-requires Inv-loop μ-loop
-advanced-requires c κs = (on (c .before .before .before .before .before .before .before) .0, omega (arith, c .before .before .before .before .before .before .least .ensures))
+advanced-requires c κs =
+    let smaller = c .before .before .before .before .before .before .smaller in
+    (on (c .before .before .before .before .before .before .before) .0, omega (arith, smaller .ensures))
 
 advanced-requires-2 : tie.Need-advanced-requires-2 Inv-loop μ-loop
-advanced-requires-2 c κs = (on (c .before .before .before .before .before .before .before .before) .1, omega (arith, c .before .before .before .before .before .before .before .least .ensures))
+advanced-requires-2 c κs =
+    let smaller = c .before .before .before .before .before .before .before .smaller in
+    (on (c .before .before .before .before .before .before .before .before) .1, omega (arith, smaller .ensures))
 
 add-k : tie.Need-add-k Inv-loop μ-loop
 add-k c = omega (arith, on (c .before .before .before .before .before .before .before .before .before) .2, start (c .before .before .before .before .before .before .before .before .before .before .before) .pre .2)
@@ -66,12 +70,16 @@ loop-less c = omega (arith, on (c .before .before .before .before .before .befor
 
 loop-again : tie.Need-loop-again Inv-loop μ-loop
 loop-again c =
+    let smaller = c .before .before .before .before .before .before .before .before .smaller in
+    let number-at = c .before .before .before .before .before .before .before .number-at in
+    let number-at2 = c .before .before .before .before .before .before .number-at2 in
+    let write-trade = c .before .before .before .before .write-trade in
     let t = c .before .before .before .before .before .before .before .before .before in
     let l = c .before .before .before .before .before .before .before .before .before .before .before in
     let a = start l in
     state-step _ _ _ _ _ _ _ _ _ _ (l .loop .inv) (goes t)
     (omega (arith, length-map (a .args .buys .now) (λ r. getD (a .args .numbers .now) (placeOfRank r) 0), a .pre .0)) (omega (arith, length-map (a .args .sells .now) (λ r. getD (a .args .numbers .now) (placeOfRank r) 0), a .pre .1))
-    _ _ _ _ _ _ (c .before .before .before .before .before .before .before .number-at .ensures) (c .before .before .before .before .before .before .number-at2 .ensures) (c .before .before .before .before .before .before .before .before .least .ensures) (c .before .advanced .ensures) (c .advanced2 .ensures) (c .before .before .before .before .write-trade .ensures) (c .before .before .before .before .write-trade .kept .0)
+    _ _ _ _ _ _ (number-at .ensures) (number-at2 .ensures) (smaller .ensures) (c .before .advanced .ensures) (c .advanced2 .ensures) (write-trade .ensures) (write-trade .kept .0)
 
 same-length : tie.Need-same-length Inv-loop μ-loop
 same-length c = c .before .before .loop .inv .long
@@ -89,7 +97,7 @@ pair-spec =
     share-at-requires-2
     loop-holds
     going-requires
-    least-requires
+    smaller-requires
     number-at-requires
     number-at-requires-2
     write-trade-requires

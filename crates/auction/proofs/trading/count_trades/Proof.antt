@@ -17,10 +17,14 @@ abbrev sold : tie.After-share-out2 → List ℕ
 sold c = take (c .share-out2 .result) (c .share-out2 .last .1 .1 .1 .0)
 
 bids-long : (c : tie.After-share-out) → length (bought c) ≡ c .share-out .result
-bids-long c = length-take-le (c .share-out .result) (c .share-out .last .1 .1 .1 .0) (omega (arith, c .share-out .kept .1 .1 .1 .0, c .share-out .ensures .0, c .before .before .before .before .pre .0))
+bids-long c =
+    let pre = c .before .before .before .before .pre in
+    length-take-le (c .share-out .result) (c .share-out .last .1 .1 .1 .0) (omega (arith, c .share-out .kept .1 .1 .1 .0, c .share-out .ensures .0, pre .0))
 
 asks-long : (c : tie.After-share-out2) → length (sold c) ≡ c .share-out2 .result
-asks-long c = length-take-le (c .share-out2 .result) (c .share-out2 .last .1 .1 .1 .0) (omega (arith, c .share-out2 .kept .1 .1 .1 .0, c .share-out2 .ensures .0, c .before .before .before .before .before .before .before .pre .1))
+asks-long c =
+    let pre = c .before .before .before .before .before .before .before .pre in
+    length-take-le (c .share-out2 .result) (c .share-out2 .last .1 .1 .1 .0) (omega (arith, c .share-out2 .kept .1 .1 .1 .0, c .share-out2 .ensures .0, pre .1))
 
 slice-aggregate-share-out : tie.Need-slice-aggregate-share-out
 slice-aggregate-share-out c = search needs
@@ -51,18 +55,20 @@ slice-aggregate-pair-3 c = sym (asks-long (c .before .before .before .before))
 
 pair-requires : tie.Need-pair-requires
 pair-requires c κs =
+    let pre = c .before .before .before .before .before .before .before .before .before .before .before .pre in
     let b = c .before .before .before .before .before .before .before in
     let s = c .before .before .before .before in
     let few = b .share-out .ensures .0 in
     let few' = s .share-out2 .ensures .0 in
-    (omega (arith, bids-long b, few), omega (arith, asks-long s, few'), omega (arith, bids-long b, asks-long s, few, few', c .before .before .before .before .before .before .before .before .before .before .before .pre))
+    (omega (arith, bids-long b, few), omega (arith, asks-long s, few'), omega (arith, bids-long b, asks-long s, few, few', pre))
 
 cast-result : tie.Need-cast-result
 cast-result c =
+    let pre = c .before .before .before .before .before .before .before .before .before .before .before .before .before .pre in
     let b = c .before .before .before .before .before .before .before .before .before in
     let s = c .before .before .before .before .before .before in
     let a = c .before .before .before .before .before .before .before .before .before .before .before .before .before .args in
-    omega (arith, c .before .pair .ensures .0, few-trades (a .numbers .now) (a .buys .now) (bought b) (a .sells .now) (sold s), bids-long b, asks-long s, b .share-out .ensures .0, s .share-out2 .ensures .0, c .before .before .before .before .before .before .before .before .before .before .before .before .before .pre)
+    omega (arith, c .before .pair .ensures .0, few-trades (a .numbers .now) (a .buys .now) (bought b) (a .sells .now) (sold s), bids-long b, asks-long s, b .share-out .ensures .0, s .share-out2 .ensures .0, pre)
 
 returns : tie.Need-returns
 returns c =

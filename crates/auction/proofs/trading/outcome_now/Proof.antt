@@ -11,10 +11,14 @@ use Rattle.auction.proofs.trading.outcome_now.Statement.{statement}
 use Rattle.auction.proofs.trading.outcome_now.Tie as tie
 
 abbrev buys : tie.After-sum-up → List ℕ
-buys c = c .before .before .before .before .args .buys .now
+buys c =
+    let a = c .before .before .before .before .args in
+    a .buys .now
 
 abbrev sells : tie.After-sum-up2 → List ℕ
-sells c = c .before .before .before .before .before .before .before .args .sells .now
+sells c =
+    let a = c .before .before .before .before .before .before .before .args in
+    a .sells .now
 
 abbrev demands : tie.After-sum-up → List ℕ
 demands c = take (length (buys c) + 1) (c .sum-up .last .1 .1 .0)
@@ -23,10 +27,14 @@ abbrev supplies : tie.After-sum-up2 → List ℕ
 supplies c = take (length (sells c) + 1) (c .sum-up2 .last .1 .1 .0)
 
 demands-long : (c : tie.After-sum-up) → length (demands c) ≡ length (buys c) + 1
-demands-long c = length-take-le (length (buys c) + 1) (c .sum-up .last .1 .1 .0) (omega (arith, c .sum-up .kept .1 .1 .0, c .before .before .before .before .pre .1))
+demands-long c =
+    let pre = c .before .before .before .before .pre in
+    length-take-le (length (buys c) + 1) (c .sum-up .last .1 .1 .0) (omega (arith, c .sum-up .kept .1 .1 .0, pre .1))
 
 supplies-long : (c : tie.After-sum-up2) → length (supplies c) ≡ length (sells c) + 1
-supplies-long c = length-take-le (length (sells c) + 1) (c .sum-up2 .last .1 .1 .0) (omega (arith, c .sum-up2 .kept .1 .1 .0, c .before .before .before .before .before .before .before .pre .3))
+supplies-long c =
+    let pre = c .before .before .before .before .before .before .before .pre in
+    length-take-le (length (sells c) + 1) (c .sum-up2 .last .1 .1 .0) (omega (arith, c .sum-up2 .kept .1 .1 .0, pre .3))
 
 slice-aggregate-sum-up : tie.Need-slice-aggregate-sum-up
 slice-aggregate-sum-up c = search needs
@@ -59,30 +67,39 @@ slice-aggregate-sell-sums : tie.Need-slice-aggregate-sell-sums
 slice-aggregate-sell-sums c = sym (supplies-long (c .before .before .before))
 
 searched-requires : tie.Need-searched-requires
-searched-requires c κs = (c .before .before .before .before .before .before .before .before .before .before .pre .0, omega (arith, demands-long (c .before .before .before .before .before .before)), c .before .before .before .before .before .before .before .before .before .before .pre .2, omega (arith, supplies-long (c .before .before .before)))
+searched-requires c κs =
+    let pre = c .before .before .before .before .before .before .before .before .before .before .pre in
+    (pre .0, omega (arith, demands-long (c .before .before .before .before .before .before)), pre .2, omega (arith, supplies-long (c .before .before .before)))
 
 rank-bound-requires : tie.Need-rank-bound-requires
 rank-bound-requires c κs = search needs
 
 sum-below-requires : tie.Need-sum-below-requires
-sum-below-requires c κs = (c .before .before .before .before .before .before .before .before .before .before .before .before .pre .0, omega (arith, demands-long (c .before .before .before .before .before .before .before .before)))
+sum-below-requires c κs =
+    let pre = c .before .before .before .before .before .before .before .before .before .before .before .before .pre in
+    (pre .0, omega (arith, demands-long (c .before .before .before .before .before .before .before .before)))
 
 rank-bound-requires-2 : tie.Need-rank-bound-requires-2
 rank-bound-requires-2 c κs = search needs
 
 sum-below-requires-2 : tie.Need-sum-below-requires-2
-sum-below-requires-2 c κs = (c .before .before .before .before .before .before .before .before .before .before .before .before .before .before .pre .2, omega (arith, supplies-long (c .before .before .before .before .before .before .before)))
+sum-below-requires-2 c κs =
+    let pre = c .before .before .before .before .before .before .before .before .before .before .before .before .before .before .pre in
+    (pre .2, omega (arith, supplies-long (c .before .before .before .before .before .before .before)))
 
 outcome-of-requires : tie.Need-outcome-of-requires
 outcome-of-requires c κs = search needs
 
 returns : tie.Need-returns
 returns c =
+    let searched = c .before .before .before .before .before .searched in
+    let rank-bound = c .before .before .before .before .rank-bound in
+    let sum-below = c .before .before .before .sum-below in
     let d = c .before .before .before .before .before .before .before .before .before .before .before .before in
     let s = c .before .before .before .before .before .before .before .before .before in
     let a = c .before .before .before .before .before .before .before .before .before .before .before .before .before .before .before .before .args in
     outcome-composed (a .auction) (a .delayed) (a .threshold) (a .reference) (a .limits .now) (a .lefts .now) (buys d) (sells s) (demands d) (supplies s) (d .sum-up .ensures) (s .sum-up2 .ensures)
-    (c .before .before .before .before .before .searched .result) (c .before .before .before .before .before .searched .ensures) (c .before .before .before .before .rank-bound .result) (c .before .before .before .before .rank-bound .ensures) (c .before .before .before .sum-below .result) (c .before .before .before .sum-below .ensures)
+    (searched .result) (searched .ensures) (rank-bound .result) (rank-bound .ensures) (sum-below .result) (sum-below .ensures)
     (c .before .before .rank-bound2 .result) (c .before .before .rank-bound2 .ensures) (c .before .sum-below2 .result) (c .before .sum-below2 .ensures) (c .outcome-of .result) (c .outcome-of .ensures)
 
 pub outcome-now-spec : {M : Type 1} → statement M

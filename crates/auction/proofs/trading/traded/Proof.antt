@@ -17,10 +17,14 @@ abbrev sold : tie.After-share-out2 → List ℕ
 sold c = take (c .share-out2 .result) (c .share-out2 .last .1 .1 .1 .0)
 
 bids-long : (c : tie.After-share-out) → length (bought c) ≡ c .share-out .result
-bids-long c = length-take-le (c .share-out .result) (c .share-out .last .1 .1 .1 .0) (omega (arith, c .share-out .kept .1 .1 .1 .0, c .share-out .ensures .0, c .before .before .before .before .before .before .before .pre .0))
+bids-long c =
+    let pre = c .before .before .before .before .before .before .before .pre in
+    length-take-le (c .share-out .result) (c .share-out .last .1 .1 .1 .0) (omega (arith, c .share-out .kept .1 .1 .1 .0, c .share-out .ensures .0, pre .0))
 
 asks-long : (c : tie.After-share-out2) → length (sold c) ≡ c .share-out2 .result
-asks-long c = length-take-le (c .share-out2 .result) (c .share-out2 .last .1 .1 .1 .0) (omega (arith, c .share-out2 .kept .1 .1 .1 .0, c .share-out2 .ensures .0, c .before .before .before .before .before .before .before .before .before .before .before .before .pre .1))
+asks-long c =
+    let pre = c .before .before .before .before .before .before .before .before .before .before .before .before .pre in
+    length-take-le (c .share-out2 .result) (c .share-out2 .last .1 .1 .1 .0) (omega (arith, c .share-out2 .kept .1 .1 .1 .0, c .share-out2 .ensures .0, pre .1))
 
 left-long : (c : tie.Start) → length (c .args .t1 .left) ≡ 512
 left-long c = search needs
@@ -51,11 +55,12 @@ slice-aggregate-pair-2 c = sym (asks-long (c .before .before .before .before .be
 
 pair-requires : tie.Need-pair-requires
 pair-requires c κs =
+    let pre = c .before .before .before .before .before .before .before .before .before .before .before .before .before .before .before .before .before .before .pre in
     let b = c .before .before .before .before .before .before .before .before .before .before .before in
     let s = c .before .before .before .before .before .before in
     let few = b .share-out .ensures .0 in
     let few' = s .share-out2 .ensures .0 in
-    (omega (arith, bids-long b, few), omega (arith, asks-long s, few'), omega (arith, bids-long b, asks-long s, few, few', c .before .before .before .before .before .before .before .before .before .before .before .before .before .before .before .before .before .before .pre))
+    (omega (arith, bids-long b, few), omega (arith, asks-long s, few'), omega (arith, bids-long b, asks-long s, few, few', pre))
 
 slice-aggregate-lessen : tie.Need-slice-aggregate-lessen
 slice-aggregate-lessen c = sym (left-long (c .before .before .before .before .before .before .before .before .before .before .before .before .before .before .before .before .before .before .before .before .before .before .before))
@@ -67,7 +72,9 @@ slice-aggregate-lessen-2 : tie.Need-slice-aggregate-lessen-2
 slice-aggregate-lessen-2 c = sym (bids-long (c .before .before .before .before .before .before .before .before .before .before .before .before .before .before .before .before .before))
 
 lessen-requires : tie.Need-lessen-requires
-lessen-requires c κs = (omega (arith, left-long (c .before .before .before .before .before .before .before .before .before .before .before .before .before .before .before .before .before .before .before .before .before .before .before .before)), omega (arith, bids-long (c .before .before .before .before .before .before .before .before .before .before .before .before .before .before .before .before .before), c .before .before .before .before .before .before .before .before .before .before .before .before .before .before .before .before .before .share-out .ensures .0))
+lessen-requires c κs =
+    let share-out = c .before .before .before .before .before .before .before .before .before .before .before .before .before .before .before .before .before .share-out in
+    (omega (arith, left-long (c .before .before .before .before .before .before .before .before .before .before .before .before .before .before .before .before .before .before .before .before .before .before .before .before)), omega (arith, bids-long (c .before .before .before .before .before .before .before .before .before .before .before .before .before .before .before .before .before), share-out .ensures .0))
 
 slice-aggregate-lessen-3 : tie.Need-slice-aggregate-lessen-3
 slice-aggregate-lessen-3 c = search needs
@@ -79,29 +86,37 @@ slice-aggregate-lessen-4 : tie.Need-slice-aggregate-lessen-4
 slice-aggregate-lessen-4 c = sym (asks-long (c .before .before .before .before .before .before .before .before .before .before .before .before .before .before .before .before))
 
 lessen-requires-2 : tie.Need-lessen-requires-2
-lessen-requires-2 c κs = (omega (arith, c .before .before .before .lessen .kept .0, left-long (c .before .before .before .before .before .before .before .before .before .before .before .before .before .before .before .before .before .before .before .before .before .before .before .before .before .before .before .before)), omega (arith, asks-long (c .before .before .before .before .before .before .before .before .before .before .before .before .before .before .before .before), c .before .before .before .before .before .before .before .before .before .before .before .before .before .before .before .before .share-out2 .ensures .0))
+lessen-requires-2 c κs =
+    let share-out2 = c .before .before .before .before .before .before .before .before .before .before .before .before .before .before .before .before .share-out2 in
+    let lessen = c .before .before .before .lessen in
+    (omega (arith, lessen .kept .0, left-long (c .before .before .before .before .before .before .before .before .before .before .before .before .before .before .before .before .before .before .before .before .before .before .before .before .before .before .before .before)), omega (arith, asks-long (c .before .before .before .before .before .before .before .before .before .before .before .before .before .before .before .before), share-out2 .ensures .0))
 
 settled-requires : tie.Need-settled-requires
 settled-requires c κs = search needs
 
 cast-t41 : tie.Need-cast-t41
 cast-t41 c =
+    let pre = c .before .before .before .before .before .before .before .before .before .before .before .before .before .before .before .before .before .before .before .before .before .before .before .before .before .before .before .before .before .before .before .before .pre in
+    let pair = c .before .before .before .before .before .before .before .before .before .before .before .before .before .pair in
     let b = c .before .before .before .before .before .before .before .before .before .before .before .before .before .before .before .before .before .before .before .before .before .before .before .before .before in
     let s = c .before .before .before .before .before .before .before .before .before .before .before .before .before .before .before .before .before .before .before .before in
     let a = c .before .before .before .before .before .before .before .before .before .before .before .before .before .before .before .before .before .before .before .before .before .before .before .before .before .before .before .before .before .before .before .before .args in
-    omega (arith, c .before .before .before .before .before .before .before .before .before .before .before .before .before .pair .ensures .0, few-trades (a .t1 .number) (a .buys .now) (bought b) (a .sells .now) (sold s), bids-long b, asks-long s, b .share-out .ensures .0, s .share-out2 .ensures .0, c .before .before .before .before .before .before .before .before .before .before .before .before .before .before .before .before .before .before .before .before .before .before .before .before .before .before .before .before .before .before .before .before .pre)
+    omega (arith, pair .ensures .0, few-trades (a .t1 .number) (a .buys .now) (bought b) (a .sells .now) (sold s), bids-long b, asks-long s, b .share-out .ensures .0, s .share-out2 .ensures .0, pre)
 
 same-length : tie.Need-same-length
 same-length c = search needs
 
 returns : tie.Need-returns
 returns c =
+    let pair = c .before .before .before .before .before .before .before .before .before .before .before .before .before .pair in
+    let lessen = c .before .before .before .before .before .before .before .lessen in
+    let lessen2 = c .before .before .before .lessen2 in
     let b = c .before .before .before .before .before .before .before .before .before .before .before .before .before .before .before .before .before .before .before .before .before .before .before .before .before in
     let s = c .before .before .before .before .before .before .before .before .before .before .before .before .before .before .before .before .before .before .before .before in
     let a = c .before .before .before .before .before .before .before .before .before .before .before .before .before .before .before .before .before .before .before .before .before .before .before .before .before .before .before .before .before .before .before .before .args in
     let trades = trades-composed (a .quantity) (a .t1 .number) (a .t1 .left) (a .buys .now) (a .sells .now) (bought b) (sold s) (b .share-out .ensures .1) (s .share-out2 .ensures .1) in
     let rests = rests-composed (a .quantity) (a .t1 .left) (a .buys .now) (a .sells .now) (bought b) (sold s) (b .share-out .ensures .1) (s .share-out2 .ensures .1) in
-    (rw (← trades) (c .before .before .before .before .before .before .before .before .before .before .before .before .before .pair .ensures .0), rw (← rests, c .settled .ensures, c .before .before .before .lessen2 .ensures, c .before .before .before .before .before .before .before .lessen .ensures), rw (← trades) (c .before .before .before .before .before .before .before .before .before .before .before .before .before .pair .ensures .1))
+    (rw (← trades) (pair .ensures .0), rw (← rests, c .settled .ensures, lessen2 .ensures, lessen .ensures), rw (← trades) (pair .ensures .1))
 
 pub traded-spec : {M : Type 1} → statement M
 traded-spec =

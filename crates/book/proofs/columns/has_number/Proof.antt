@@ -74,7 +74,8 @@ element-copy-out-result-8 : tie.Need-element-copy-out-result-8
 element-copy-out-result-8 c = search needs
 
 returns : tie.Need-returns
-returns c = let a = c .before .before .before .before .before .before .before .before .args in has-number-eight (a .numbers .now) (a .number) (a .from)
+returns c =
+    let a = c .before .before .before .before .before .before .before .before .args in has-number-eight (a .numbers .now) (a .number) (a .from)
 
 pub has-number-spec : {M : Type 1} → statement M
 has-number-spec =

@@ -58,11 +58,12 @@ bit-of-requires c κs = search needs
 
 returns : tie.Need-returns Inv-loop μ-loop
 returns c =
+    let if1 = c .before .before .before .if1 in
     let l = c .before .before .before .before .before .before in
     sym
     (l .before .loop .inv .1 ∙
     rw (left-more _ _ (l .loop-test .taken))
-    (place-in-hit _ _ _ _ _ _ _ (rw (← c .before .bit-of .ensures, c .if2 .taken, c .before .before .before .if1 .taken))))
+    (place-in-hit _ _ _ _ _ _ _ (rw (← c .before .bit-of .ensures, c .if2 .taken, if1 .taken))))
 
 add-place : tie.Need-add-place Inv-loop μ-loop
 add-place c = search needs

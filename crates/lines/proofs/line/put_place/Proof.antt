@@ -12,22 +12,35 @@ put-decimal-requires : tie.Need-put-decimal-requires
 put-decimal-requires c κs = search needs
 
 put-byte-requires : tie.Need-put-byte-requires
-put-byte-requires c κs = omega (arith, c .before .before .before .put-decimal .ensures .0, c .before .before .before .put-decimal .kept .0, decimal-length (c .before .before .before .before .before .before .before .args .place), c .before .before .before .before .before .before .before .pre .0)
+put-byte-requires c κs =
+    let start = c .before .before .before .before .before .before .before in
+    let a = start .args in
+    let put-decimal = c .before .before .before .put-decimal in
+    omega (arith, put-decimal .ensures .0, put-decimal .kept .0, decimal-length (a .place), start .pre .0)
 
 put-bytes-requires : tie.Need-put-bytes-requires
-put-bytes-requires c κs = omega (arith, c .before .before .before .before .before .before .before .put-decimal .ensures .0, c .before .before .before .before .before .before .before .put-decimal .kept .0, c .before .before .before .put-byte .ensures .0, c .before .before .before .put-byte .kept .0, decimal-length (c .before .before .before .before .before .before .before .before .before .before .before .args .place), c .before .before .before .before .before .before .before .before .before .before .before .pre .0, c .before .before .before .before .before .before .before .before .before .before .before .pre .1)
+put-bytes-requires c κs =
+    let start = c .before .before .before .before .before .before .before .before .before .before .before in
+    let a = start .args in
+    let put-decimal = c .before .before .before .before .before .before .before .put-decimal in
+    let put-byte = c .before .before .before .put-byte in
+    omega (arith, put-decimal .ensures .0, put-decimal .kept .0, put-byte .ensures .0, put-byte .kept .0, decimal-length (a .place), start .pre .0, start .pre .1)
 
 same-length : tie.Need-same-length
 same-length c = search needs
 
 returns : tie.Need-returns
 returns c =
-    let w = c .before .before .before .before .before .before .before .before .before .before .before .before .before .before .args .word .now in
+    let start = c .before .before .before .before .before .before .before .before .before .before .before .before .before .before in
+    let a = start .args in
+    let put-decimal = c .before .before .before .before .before .before .before .before .before .before .put-decimal in
+    let put-byte = c .before .before .before .before .before .before .put-byte in
+    let w = a .word .now in
     put-then _ _ _ _ _ _
-    (decimal (c .before .before .before .before .before .before .before .before .before .before .before .before .before .before .args .place)) (space ∷ w) (omega (arith, c .before .before .before .before .before .before .before .before .before .before .before .before .before .before .pre .0)) (c .before .before .before .before .before .before .before .before .before .before .put-decimal .ensures)
+    (decimal (a .place)) (space ∷ w) (omega (arith, start .pre .0)) (put-decimal .ensures)
     (put-then _ _ _ _ _ _
     (space ∷ []) w
-    (omega (arith, c .before .before .before .before .before .before .before .before .before .before .put-decimal .ensures .0, c .before .before .before .before .before .before .before .before .before .before .put-decimal .kept .0, decimal-length (c .before .before .before .before .before .before .before .before .before .before .before .before .before .before .args .place), c .before .before .before .before .before .before .before .before .before .before .before .before .before .before .pre .0)) (c .before .before .before .before .before .before .put-byte .ensures) (c .before .before .put-bytes .ensures))
+    (omega (arith, put-decimal .ensures .0, put-decimal .kept .0, decimal-length (a .place), start .pre .0)) (put-byte .ensures) (c .before .before .put-bytes .ensures))
 
 pub put-place-spec : {M : Type 1} → statement M
 put-place-spec =

@@ -3,7 +3,9 @@ use Prim.Native.Nat.{_-_, _≤_}
 use mathlib.Core.Path.{_≡_}
 use native.Mathlib.Omega.{arith}
 use borrow.Author.Needs.{needs}
-use Rattle.lines.specs.Trades.{WroteTrades, trades-start, trades-within, trades-next}
+use Rattle.lines.specs.Trades.{WroteTrades, trades-within, trades-next}
+use Rattle.lines.specs.Texts.{all-none}
+use Rattle.lines.specs.Line.{tradeLine}
 use Rattle.lines.proofs.line.trade_lines.Statement.{statement}
 use Rattle.lines.proofs.line.trade_lines.Tie as tie
 
@@ -16,7 +18,7 @@ abbrev μ-loop : tie.MeasureT-loop
 loop-holds : tie.Need-loop-holds Inv-loop μ-loop
 loop-holds c =
     let s = c .before .before in
-    (omega arith, trades-start (s .args .out .now) (s .args .list .now) (s .args .at) (omega arith))
+    (omega arith, all-none tradeLine (s .args .out .now) (s .args .at) (omega arith))
 
 mul-i : tie.Need-mul-i Inv-loop μ-loop
 mul-i c = search needs
@@ -71,7 +73,8 @@ same-length c = search needs
 
 returns : tie.Need-returns Inv-loop μ-loop
 returns c =
-    let e : c .before .loop .k ≡ c .before .before .before .before .args .count = omega arith in
+    let a = c .before .before .before .before .args in
+    let e : c .before .loop .k ≡ a .count = omega arith in
     rw e at (c .before .loop .inv .1 .1)
 
 pub trade-lines-spec : {M : Type 1} → statement M

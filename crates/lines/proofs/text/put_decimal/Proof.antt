@@ -28,10 +28,17 @@ add-out : tie.Need-add-out Inv-loop μ-loop
 add-out c = search needs
 
 add-out-2 : tie.Need-add-out-2 Inv-loop μ-loop
-add-out-2 c = omega (arith, c .before .loop .inv .0, decimal-length (c .before .before .before .before .args .x), c .before .before .before .before .pre, c .before .before .before .before .good)
+add-out-2 c =
+    let start = c .before .before .before .before in
+    let a = start .args in
+    let good = c .before .before .before .before .good in
+    omega (arith, c .before .loop .inv .0, decimal-length (a .x), start .pre, good)
 
 slice-write-out : tie.Need-slice-write-out Inv-loop μ-loop
-slice-write-out c = omega (arith, c .before .loop .inv .0, c .before .loop .inv .1, decimal-length (c .before .before .before .before .args .x), c .before .before .before .before .pre)
+slice-write-out c =
+    let start = c .before .before .before .before in
+    let a = start .args in
+    omega (arith, c .before .loop .inv .0, c .before .loop .inv .1, decimal-length (a .x), start .pre)
 
 loop-less : tie.Need-loop-less Inv-loop μ-loop
 loop-less c = omega (arith, c .loop-test .taken)
@@ -43,7 +50,11 @@ loop-again c =
     shown-step (a .args .x) (a .args .at) (l .loop .i) (l .loop .i - 1) (l .loop .rest) (a .args .out .now) (l .loop .out) (a .pre) (omega (arith, c .loop-test .taken)) (l .loop .inv)
 
 add-result : tie.Need-add-result Inv-loop μ-loop
-add-result c = omega (arith, decimal-length (c .before .before .before .before .args .x), c .before .before .before .before .pre, c .before .before .count-digits .ensures, c .before .before .before .before .good)
+add-result c =
+    let start = c .before .before .before .before in
+    let a = start .args in
+    let good = c .before .before .before .before .good in
+    omega (arith, decimal-length (a .x), start .pre, c .before .before .count-digits .ensures, good)
 
 same-length : tie.Need-same-length Inv-loop μ-loop
 same-length c = c .before .loop .inv .1

@@ -17,7 +17,11 @@ same-length : tie.Need-same-length
 same-length c = search needs
 
 returns : tie.Need-returns
-returns c = put-then _ _ _ _ _ _ (space ∷ []) (decimal (c .before .before .before .before .before .before .before .before .before .args .x)) (omega (arith, c .before .before .before .before .before .before .before .before .before .pre)) (c .before .before .before .before .before .before .put-byte .ensures) (c .before .before .put-decimal .ensures)
+returns c =
+    let start = c .before .before .before .before .before .before .before .before .before in
+    let a = start .args in
+    let put-byte = c .before .before .before .before .before .before .put-byte in
+    put-then _ _ _ _ _ _ (space ∷ []) (decimal (a .x)) (omega (arith, start .pre)) (put-byte .ensures) (c .before .before .put-decimal .ensures)
 
 pub put-number-spec : {M : Type 1} → statement M
 put-number-spec = tie.close (tie.spec put-byte-requires put-decimal-requires same-length returns)

@@ -27,7 +27,10 @@ shared-slice-read-if1 : tie.Need-shared-slice-read-if1 Inv-loop μ-loop
 shared-slice-read-if1 c = omega (arith, c .before .before .loop .inv .room)
 
 add-low : tie.Need-add-low Inv-loop μ-loop
-add-low c = omega (arith, c .before .before .before .loop .inv .room, c .before .before .before .before .good)
+add-low c =
+    let good = c .before .before .before .before .good in
+    let loop = c .before .before .before .loop in
+    omega (arith, loop .inv .room, good)
 
 loop-less : tie.Need-loop-less Inv-loop μ-loop
 loop-less c = omega (arith, c .before .before .loop-test .taken)

@@ -12,8 +12,8 @@ offer-requires c κs = search needs
 offer-requires-2 : tie.Need-offer-requires-2
 offer-requires-2 c κs = search needs
 
-smaller-requires : tie.Need-smaller-requires
-smaller-requires c κs = search needs
+executable-requires : tie.Need-executable-requires
+executable-requires c κs = search needs
 
 apart-requires : tie.Need-apart-requires
 apart-requires c κs = search needs
@@ -28,7 +28,9 @@ weigh-limits-requires-2 : tie.Need-weigh-limits-requires-2
 weigh-limits-requires-2 c κs = search needs
 
 chosen-requires : tie.Need-chosen-requires
-chosen-requires c κs = c .before .before .before .before .before .before .before .before .before .before .before .pre
+chosen-requires c κs =
+    let pre = c .before .before .before .before .before .before .before .before .before .before .before .pre in
+    pre
 
 returns : tie.Need-returns
 returns c =
@@ -36,7 +38,7 @@ returns c =
     let f = w .before in
     let o = f .before .before .before in
     let a = o .before .before .before .before .before .before .args in
-    searched-from _ _ _ (map (λ x. getD (a .limits .now) (placeOfRank x) 0) (a .buys .now)) (map (λ x. getD (a .limits .now) (placeOfRank x) 0) (a .sells .now)) (c .chosen .ensures) (c .before .weigh-limits2 .ensures) (w .weigh-limits .ensures) (f .first .ensures) (f .before .before .smaller .ensures) (f .before .apart .ensures) (o .before .offer .ensures) (o .offer2 .ensures)
+    searched-from _ _ _ (map (λ x. getD (a .limits .now) (placeOfRank x) 0) (a .buys .now)) (map (λ x. getD (a .limits .now) (placeOfRank x) 0) (a .sells .now)) (c .chosen .ensures) (c .before .weigh-limits2 .ensures) (w .weigh-limits .ensures) (f .first .ensures) (f .before .before .executable .ensures) (f .before .apart .ensures) (o .before .offer .ensures) (o .offer2 .ensures)
 
 pub searched-spec : {M : Type 1} → statement M
 searched-spec =
@@ -44,7 +46,7 @@ searched-spec =
     (tie.spec
     offer-requires
     offer-requires-2
-    smaller-requires
+    executable-requires
     apart-requires
     first-requires
     weigh-limits-requires

@@ -11,7 +11,9 @@ mul-result : tie.Need-mul-result
 mul-result c = omega (arith, c .below .ensures, count-le (c .before .before .before .args .bound) (c .before .before .before .args .ranks .now))
 
 shared-slice-read-result : tie.Need-shared-slice-read-result
-shared-slice-read-result c = omega (arith, c .before .below .ensures, count-le (c .before .before .before .before .args .bound) (c .before .before .before .before .args .ranks .now))
+shared-slice-read-result c =
+    let a = c .before .before .before .before .args in
+    omega (arith, c .before .below .ensures, count-le (a .bound) (a .ranks .now))
 
 returns : tie.Need-returns
 returns c = rw (c .before .below .ensures)

@@ -55,11 +55,13 @@ loop-less c = search needs
 
 loop-again : tie.Need-loop-again Inv-loop μ-loop
 loop-again c =
+    let loop-test = c .before .before .before .before .before .loop-test in
+    let place-of-rank = c .before .before .before .place-of-rank in
     let l = c .before .before .before .before .before .before in
     let a = l .before .before .before .before in (
       length-set (l .loop .lefts) _ _ ∙ l .loop .inv .0,
-      rw (c .less .ensures, c .before .before .before .place-of-rank .ensures .0)
-          (lessened-step (a .args .ranks .now) (a .args .shares .now) (l .loop .lefts) (l .loop .i) (omega (arith, a .pre .1)) (c .before .before .before .before .before .loop-test .taken) ∙ l .loop .inv .1),
+      rw (c .less .ensures, place-of-rank .ensures .0)
+          (lessened-step (a .args .ranks .now) (a .args .shares .now) (l .loop .lefts) (l .loop .i) (omega (arith, a .pre .1)) (loop-test .taken) ∙ l .loop .inv .1),
     )
 
 same-length : tie.Need-same-length Inv-loop μ-loop

@@ -37,8 +37,8 @@ shared-slice-read-left-at c = search needs
 left-at-requires : tie.Need-left-at-requires Inv-loop μ-loop
 left-at-requires c κs = search needs
 
-least-requires : tie.Need-least-requires Inv-loop μ-loop
-least-requires c κs = search needs
+share-of-requires : tie.Need-share-of-requires Inv-loop μ-loop
+share-of-requires c κs = search needs
 
 mul-list : tie.Need-mul-list Inv-loop μ-loop
 mul-list c = search needs
@@ -60,12 +60,13 @@ loop-less c = search needs
 
 loop-again : tie.Need-loop-again Inv-loop μ-loop
 loop-again c =
+    let if1 = c .before .before .before .if1 in
     let l = c .before .before .before .before .before in
     let a = l .before .before .before in (
       omega arith,
       length-set (l .loop .list) _ _ ∙ l .loop .inv .1,
-      rw (c .least .ensures, c .before .left-at .ensures)
-          (shares-step (λ r. getD (a .args .lefts .now) (placeOfRank r) 0) (a .args .ranks .now) (l .loop .i) (l .loop .rest) (l .loop .list) (omega arith) (omega (arith, a .pre, l .loop .inv .1)) (c .before .before .before .if1 .left) ∙ l .loop .inv .2),
+      rw (c .share-of .ensures, c .before .left-at .ensures)
+          (shares-step (λ r. getD (a .args .lefts .now) (placeOfRank r) 0) (a .args .ranks .now) (l .loop .i) (l .loop .rest) (l .loop .list) (omega arith) (omega (arith, a .pre, l .loop .inv .1)) (if1 .left) ∙ l .loop .inv .2),
     )
 
 same-length-2 : tie.Need-same-length-2 Inv-loop μ-loop
@@ -89,7 +90,7 @@ share-out-spec =
     mul-left-at
     shared-slice-read-left-at
     left-at-requires
-    least-requires
+    share-of-requires
     mul-list
     slice-write-list
     cast-rest

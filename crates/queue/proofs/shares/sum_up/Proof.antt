@@ -22,7 +22,9 @@ long : (l : tie.At-loop Inv-loop μ-loop) → length (l .loop .sums) ≡ length 
 long l = l .loop .inv .1 ∙ length-set (l .before .before .before .args .sums .now) 0 0
 
 room : (c : tie.After-left-at Inv-loop μ-loop) → c .before .before .before .loop .i + 1 < length (c .before .before .before .loop .sums)
-room c = omega (arith, c .before .before .loop-test .taken, long (c .before .before .before), c .before .before .before .before .before .before .pre .1)
+room c =
+    let pre = c .before .before .before .before .before .before .pre in
+    omega (arith, c .before .before .loop-test .taken, long (c .before .before .before), pre .1)
 
 slice-write-sums : tie.Need-slice-write-sums Inv-loop μ-loop
 slice-write-sums c = search needs
@@ -45,7 +47,10 @@ cast-total : tie.Need-cast-total Inv-loop μ-loop
 cast-total c = omega (arith, c .left-at .ok)
 
 add-total : tie.Need-add-total Inv-loop μ-loop
-add-total c = omega (arith, c .left-at .ok, c .before .before .before .loop .inv .2, c .before .before .before .before .before .before .pre .0)
+add-total c =
+    let pre = c .before .before .before .before .before .before .pre in
+    let loop = c .before .before .before .loop in
+    omega (arith, c .left-at .ok, loop .inv .2, pre .0)
 
 add-i : tie.Need-add-i Inv-loop μ-loop
 add-i c = search needs

@@ -22,10 +22,13 @@ from-requires c κs = search needs
 
 returns : tie.Need-returns
 returns c =
+    let two = c .before .before .before .before .before .two in
+    let byte = c .before .before .before .before .byte in
+    let byte2 = c .before .before .before .byte2 in
     rw (
-      c .before .before .before .before .before .two .ensures,
-      c .before .before .before .before .byte .ensures,
-      c .before .before .before .byte2 .ensures,
+      two .ensures,
+      byte .ensures,
+      byte2 .ensures,
       c .before .before .four .ensures,
       c .from .ensures,
       c .before .four2 .ensures,

@@ -19,9 +19,11 @@ eight-requires c κs = search needs
 
 returns : tie.Need-returns
 returns c =
+    let four = c .before .before .before .before .four in
+    let four2 = c .before .before .before .four2 in
     rw (
-      c .before .before .before .before .four .ensures,
-      c .before .before .before .four2 .ensures,
+      four .ensures,
+      four2 .ensures,
       c .before .before .two .ensures,
       c .before .two2 .ensures,
       c .eight .ensures,

@@ -35,20 +35,23 @@ add-record-of c = search needs
 
 sub-record-of : tie.Need-sub-record-of
 sub-record-of c =
+    let is-faulty = c .before .before .before .is-faulty in
     let a = c .before .before .before .before .before .before .args in
-    let good = good-record (now (a .bytes)) (a .place) (sym (c .before .before .before .is-faulty .ensures) ∙ c .before .before .if2 .left) in
+    let good = good-record (now (a .bytes)) (a .place) (sym (is-faulty .ensures) ∙ c .before .before .if2 .left) in
     omega (arith, c .two2 .ensures, good)
 
 part-record-of-start : tie.Need-part-record-of-start
 part-record-of-start c =
+    let is-faulty = c .before .before .before .is-faulty in
     let a = c .before .before .before .before .before .before .args in
-    let good = good-record (now (a .bytes)) (a .place) (sym (c .before .before .before .is-faulty .ensures) ∙ c .before .before .if2 .left) in
+    let good = good-record (now (a .bytes)) (a .place) (sym (is-faulty .ensures) ∙ c .before .before .if2 .left) in
     omega (arith, c .two2 .ensures, good)
 
 part-record-of-end : tie.Need-part-record-of-end
 part-record-of-end c =
+    let is-faulty = c .before .before .before .is-faulty in
     let a = c .before .before .before .before .before .before .args in
-    let good = good-record (now (a .bytes)) (a .place) (sym (c .before .before .before .is-faulty .ensures) ∙ c .before .before .if2 .left) in
+    let good = good-record (now (a .bytes)) (a .place) (sym (is-faulty .ensures) ∙ c .before .before .if2 .left) in
     omega (arith, c .two2 .ensures, good)
 
 record-of-requires : tie.Need-record-of-requires
@@ -56,9 +59,13 @@ record-of-requires c κs = search needs
 
 returns-3 : tie.Need-returns-3
 returns-3 c =
-    record-made _ _ (c .before .before .before .before .before .before .if1 .left)
-    (sym (c .before .before .before .before .before .is-faulty .ensures) ∙ c .before .before .before .before .if2 .left)
-    (c .before .before .before .two .ensures) (c .before .before .two2 .ensures) (c .record-of .ensures)
+    let if1 = c .before .before .before .before .before .before .if1 in
+    let is-faulty = c .before .before .before .before .before .is-faulty in
+    let if2 = c .before .before .before .before .if2 in
+    let two = c .before .before .before .two in
+    record-made _ _ (if1 .left)
+    (sym (is-faulty .ensures) ∙ if2 .left)
+    (two .ensures) (c .before .before .two2 .ensures) (c .record-of .ensures)
 
 pub record-at-spec : {M : Type 1} → statement M
 record-at-spec =

@@ -41,25 +41,38 @@ same-length c = search needs
 
 returns : tie.Need-returns
 returns c =
-    leaves-traded (c .before .before .before .before .before .before .before .before .before .before .before .before .args .self) (c .before .before .before .before .before .before .before .before .before .before .before .before .pre .0) (c .before .before .before .before .before .before .before .before .before .before .before .before .args .auction) (c .before .before .before .before .before .before .before .before .before .before .before .before .args .outcome) (c .before .before .before .before .before .before .before .before .before .before .before .before .pre .1) (c .answer-with .result) (c .before .before .before .before .before .before .before .before .before .before .before .before .args .list .now) (c .before .before .before .before .closed .last .1 .1 .1 .1 .1 .1 .1 .0) (c .before .before .before .before .before .before .before .before .before .before .before .before .pre .4)
-    (c .before .before .before .before .before .before .before .outcome .given .0 .0) (c .before .before .before .before .before .before .before .outcome .given .0 .1 .0) (c .before .before .before .before .closed .result .count) (c .before .before .before .before .closed .result .session) (c .before .before .before .before .before .before .before .outcome .given .1) (c .answer-with .ensures) (c .before .before .before .before .closed .ensures)
+    let start = c .before .before .before .before .before .before .before .before .before .before .before .before in
+    let a = start .args in
+    let outcome = c .before .before .before .before .before .before .before .outcome in
+    let closed = c .before .before .before .before .closed in
+    leaves-traded (a .self) (start .pre .0) (a .auction) (a .outcome) (start .pre .1) (c .answer-with .result) (a .list .now) (closed .last .1 .1 .1 .1 .1 .1 .1 .0) (start .pre .4)
+    (outcome .given .0 .0) (outcome .given .0 .1 .0) (closed .result .count) (closed .result .session) (outcome .given .1) (c .answer-with .ensures) (closed .ensures)
 
 same-length-2 : tie.Need-same-length-2
 same-length-2 c = search needs
 
 returns-2 : tie.Need-returns-2
 returns-2 c =
-    leaves-no-trade (c .before .before .before .before .before .before .before .before .before .before .before .args .self) (c .before .before .before .before .before .before .before .before .before .before .before .pre .0) (c .before .before .before .before .before .before .before .before .before .before .before .args .auction) (c .before .before .before .before .before .before .before .before .before .before .before .args .outcome) (c .before .before .before .before .before .before .before .before .before .before .before .pre .1) (c .answer-with2 .result) (c .before .before .before .before .before .before .before .before .before .before .before .args .list .now) (c .before .before .before .before .closed2 .last .1 .1 .1 .1 .1 .1 .1 .0) (c .before .before .before .before .before .before .before .before .before .before .before .pre .4)
-    (c .before .before .before .before .closed2 .result .count) (c .before .before .before .before .closed2 .result .session) (c .before .before .before .before .before .before .enum-told .given .1) (c .answer-with2 .ensures) (c .before .before .before .before .closed2 .ensures)
+    let start = c .before .before .before .before .before .before .before .before .before .before .before in
+    let a = start .args in
+    let enum-told = c .before .before .before .before .before .before .enum-told in
+    let closed2 = c .before .before .before .before .closed2 in
+    leaves-no-trade (a .self) (start .pre .0) (a .auction) (a .outcome) (start .pre .1) (c .answer-with2 .result) (a .list .now) (closed2 .last .1 .1 .1 .1 .1 .1 .1 .0) (start .pre .4)
+    (closed2 .result .count) (closed2 .result .session) (enum-told .given .1) (c .answer-with2 .ensures) (closed2 .ensures)
 
 returns-3 : tie.Need-returns-3
 returns-3 c =
-    leaves-non-opening (c .before .before .before .before .before .before .args .self) (c .before .before .before .before .before .before .pre .0) (c .before .before .before .before .before .before .args .auction) (c .before .before .before .before .before .before .args .outcome) (c .before .before .before .before .before .before .pre .1) (c .answer-with3 .result) (c .before .before .before .before .before .before .args .list .now) (c .before .before .before .before .before .before .args .list .now) (c .before .before .before .before .before .before .pre .4) (c .before .enum-told2 .given .1) (c .answer-with3 .ensures)
+    let start = c .before .before .before .before .before .before in
+    let a = start .args in
+    leaves-non-opening (a .self) (start .pre .0) (a .auction) (a .outcome) (start .pre .1) (c .answer-with3 .result) (a .list .now) (a .list .now) (start .pre .4) (c .before .enum-told2 .given .1) (c .answer-with3 .ensures)
 
 returns-4 : tie.Need-returns-4
 returns-4 c =
-    leaves-delayed (c .before .before .before .before .before .before .before .before .args .self) (c .before .before .before .before .before .before .before .before .pre .0) (c .before .before .before .before .before .before .before .before .args .auction) (c .before .before .before .before .before .before .before .before .args .outcome) (c .before .before .before .before .before .before .before .before .pre .1) (c .before .answer-with4 .result) (c .before .before .before .before .before .before .before .before .args .list .now) (c .before .before .before .before .before .before .before .before .args .list .now) (c .before .before .before .before .before .before .before .before .pre .4)
-    (c .before .before .before .outcome2 .given .0 .0) (c .before .before .before .outcome2 .given .0 .1 .0) (c .delay-given .result) (c .before .before .before .outcome2 .given .1) (c .before .answer-with4 .ensures) (c .delay-given .ensures)
+    let start = c .before .before .before .before .before .before .before .before in
+    let a = start .args in
+    let outcome2 = c .before .before .before .outcome2 in
+    leaves-delayed (a .self) (start .pre .0) (a .auction) (a .outcome) (start .pre .1) (c .before .answer-with4 .result) (a .list .now) (a .list .now) (start .pre .4)
+    (outcome2 .given .0 .0) (outcome2 .given .0 .1 .0) (c .delay-given .result) (outcome2 .given .1) (c .before .answer-with4 .ensures) (c .delay-given .ensures)
 
 pub carried-out-spec : {M : Type 1} → statement M
 carried-out-spec =

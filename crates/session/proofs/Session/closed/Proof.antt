@@ -7,8 +7,9 @@ use Rattle.session.proofs.Session.closed.Tie as tie
 
 traded-requires : tie.Need-traded-requires
 traded-requires c κs =
+    let pre = c .before .before .before .before .before .pre in
     let a = c .before .before .before .before .before .args in
-    (rw (c .before .before .before .before .before .pre .0) (ranks-few (a .self .book) (a .auction) Buy), rw (c .before .before .before .before .before .pre .1) (ranks-few (a .self .book) (a .auction) Sell))
+    (rw (pre .0) (ranks-few (a .self .book) (a .auction) Buy), rw (pre .1) (ranks-few (a .self .book) (a .auction) Sell))
 
 phase-after-requires : tie.Need-phase-after-requires
 phase-after-requires c κs = search needs
@@ -18,9 +19,11 @@ same-length c = search needs
 
 returns : tie.Need-returns
 returns c =
+    let pre = c .before .before .before .before .before .before .before .before .before .before .before .pre in
+    let traded = c .before .before .before .before .before .traded in
     let a = c .before .before .before .before .before .before .before .before .before .before .before .args in
-    closing (a .self) (a .auction) (a .price) (a .quantity) (a .reference) (a .buys .now) (a .sells .now) (c .before .before .before .before .before .before .before .before .before .before .before .pre .0) (c .before .before .before .before .before .before .before .before .before .before .before .pre .1) (c .before .before .before .before .before .traded .result .count) (c .phase-after .result) (c .before .before .before .before .before .traded .result .book)
-    (a .list .now) (c .before .before .before .before .before .traded .last .1 .1 .1 .1 .1 .1 .0) (c .phase-after .ensures) (c .before .before .before .before .before .traded .ensures)
+    closing (a .self) (a .auction) (a .price) (a .quantity) (a .reference) (a .buys .now) (a .sells .now) (pre .0) (pre .1) (traded .result .count) (c .phase-after .result) (traded .result .book)
+    (a .list .now) (traded .last .1 .1 .1 .1 .1 .1 .0) (c .phase-after .ensures) (traded .ensures)
 
 pub closed-spec : {M : Type 1} → statement M
 closed-spec = tie.close (tie.spec traded-requires phase-after-requires same-length returns)

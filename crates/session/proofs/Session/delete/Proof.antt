@@ -1,6 +1,6 @@
 use mathlib.Core.Path.{sym, ap, _∙_}
 use Rattle.book.specs.Columns.{cleared}
-use Rattle.session.specs.Checks.{firstHit}
+use Rattle.refusals.specs.Checks.{firstHit}
 use Rattle.session.specs.Calls.{delete-place, delete-rows, delete-room, delete-turned-down, delete-taken}
 use borrow.Author.Needs.{needs}
 use Rattle.session.proofs.Session.delete.Statement.{statement}
@@ -13,13 +13,24 @@ delete-refusal-requires : tie.Need-delete-refusal-requires
 delete-refusal-requires c κs = search needs
 
 returns : tie.Need-returns
-returns c = delete-turned-down (c .before .before .before .before .before .before .before .args .t1) (c .before .before .before .before .before .before .before .args .number) (c .before .before .before .before .before .before .before .args .member) (c .before .delete-refusal .ensures ∙ ap firstHit (delete-rows (c .before .before .before .before .before .before .before .args .t1) (c .before .before .before .before .before .before .before .args .number) (c .before .before .before .before .before .before .before .args .member) (c .before .before .place-of .ensures ∙ delete-place (c .before .before .before .before .before .before .before .args .t1) (c .before .before .before .before .before .before .before .args .number) (c .before .before .before .before .before .before .before .args .member)))) (c .if1 .taken)
+returns c =
+    let a = c .before .before .before .before .before .before .before .args in
+    delete-turned-down (a .t1) (a .number) (a .member) (c .before .delete-refusal .ensures ∙ ap firstHit (delete-rows (a .t1) (a .number) (a .member) (c .before .before .place-of .ensures ∙ delete-place (a .t1) (a .number) (a .member)))) (c .if1 .taken)
 
 cleared-requires : tie.Need-cleared-requires
-cleared-requires c κs = rw (c .before .before .before .before .place-of .ensures ∙ delete-place (c .before .before .before .before .before .before .before .before .before .args .t1) (c .before .before .before .before .before .before .before .before .before .args .number) (c .before .before .before .before .before .before .before .before .before .args .member)) (delete-room (c .before .before .before .before .before .before .before .before .before .args .t1) (c .before .before .before .before .before .before .before .before .before .args .number) (c .before .before .before .before .before .before .before .before .before .args .member) (sym (c .before .before .before .delete-refusal .ensures ∙ ap firstHit (delete-rows (c .before .before .before .before .before .before .before .before .before .args .t1) (c .before .before .before .before .before .before .before .before .before .args .number) (c .before .before .before .before .before .before .before .before .before .args .member) (c .before .before .before .before .place-of .ensures ∙ delete-place (c .before .before .before .before .before .before .before .before .before .args .t1) (c .before .before .before .before .before .before .before .before .before .args .number) (c .before .before .before .before .before .before .before .before .before .args .member)))) ∙ c .before .before .if1 .left))
+cleared-requires c κs =
+    let a = c .before .before .before .before .before .before .before .before .before .args in
+    let place-of = c .before .before .before .before .place-of in
+    let delete-refusal = c .before .before .before .delete-refusal in
+    rw (place-of .ensures ∙ delete-place (a .t1) (a .number) (a .member)) (delete-room (a .t1) (a .number) (a .member) (sym (delete-refusal .ensures ∙ ap firstHit (delete-rows (a .t1) (a .number) (a .member) (place-of .ensures ∙ delete-place (a .t1) (a .number) (a .member)))) ∙ c .before .before .if1 .left))
 
 returns-2 : tie.Need-returns-2
-returns-2 c = delete-taken (c .before .before .before .before .before .before .before .before .before .before .args .t1) (c .before .before .before .before .before .before .before .before .before .before .args .number) (c .before .before .before .before .before .before .before .before .before .before .args .member) (sym (c .before .before .before .before .delete-refusal .ensures ∙ ap firstHit (delete-rows (c .before .before .before .before .before .before .before .before .before .before .args .t1) (c .before .before .before .before .before .before .before .before .before .before .args .number) (c .before .before .before .before .before .before .before .before .before .before .args .member) (c .before .before .before .before .before .place-of .ensures ∙ delete-place (c .before .before .before .before .before .before .before .before .before .before .args .t1) (c .before .before .before .before .before .before .before .before .before .before .args .number) (c .before .before .before .before .before .before .before .before .before .before .args .member)))) ∙ c .before .before .before .if1 .left) (c .cleared .ensures ∙ ap (cleared (c .before .before .before .before .before .before .before .before .before .before .args .t1 .book)) (c .before .before .before .before .before .place-of .ensures ∙ delete-place (c .before .before .before .before .before .before .before .before .before .before .args .t1) (c .before .before .before .before .before .before .before .before .before .before .args .number) (c .before .before .before .before .before .before .before .before .before .before .args .member)))
+returns-2 c =
+    let a = c .before .before .before .before .before .before .before .before .before .before .args in
+    let place-of = c .before .before .before .before .before .place-of in
+    let delete-refusal = c .before .before .before .before .delete-refusal in
+    let if1 = c .before .before .before .if1 in
+    delete-taken (a .t1) (a .number) (a .member) (sym (delete-refusal .ensures ∙ ap firstHit (delete-rows (a .t1) (a .number) (a .member) (place-of .ensures ∙ delete-place (a .t1) (a .number) (a .member)))) ∙ if1 .left) (c .cleared .ensures ∙ ap (cleared (a .t1 .book)) (place-of .ensures ∙ delete-place (a .t1) (a .number) (a .member)))
 
 pub delete-spec : {M : Type 1} → statement M
 delete-spec =

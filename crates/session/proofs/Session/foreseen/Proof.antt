@@ -26,16 +26,23 @@ array-share-prefix-buys : tie.Need-array-share-prefix-buys
 array-share-prefix-buys c = search needs
 
 slice-aggregate-count-trades : tie.Need-slice-aggregate-count-trades
-slice-aggregate-count-trades c = sym (length-take-le (c .before .before .before .before .before .before .before .before .before .outlook .result .bids) (c .before .before .before .before .before .before .before .before .before .outlook .last .1 .1 .0) (omega (arith, c .before .before .before .before .before .before .before .before .before .outlook .kept .1 .1 .0, c .before .before .before .before .before .before .before .before .before .outlook .ensures .1)))
+slice-aggregate-count-trades c =
+    let outlook = c .before .before .before .before .before .before .before .before .before .outlook in
+    sym (length-take-le (outlook .result .bids) (outlook .last .1 .1 .0) (omega (arith, outlook .kept .1 .1 .0, outlook .ensures .1)))
 
 array-share-prefix-sells : tie.Need-array-share-prefix-sells
 array-share-prefix-sells c = search needs
 
 slice-aggregate-count-trades-2 : tie.Need-slice-aggregate-count-trades-2
-slice-aggregate-count-trades-2 c = sym (length-take-le (c .before .before .before .before .before .before .before .before .before .before .outlook .result .asks) (c .before .before .before .before .before .before .before .before .before .before .outlook .last .1 .1 .1 .0) (omega (arith, c .before .before .before .before .before .before .before .before .before .before .outlook .kept .1 .1 .1 .0, c .before .before .before .before .before .before .before .before .before .before .outlook .ensures .3)))
+slice-aggregate-count-trades-2 c =
+    let outlook = c .before .before .before .before .before .before .before .before .before .before .outlook in
+    sym (length-take-le (outlook .result .asks) (outlook .last .1 .1 .1 .0) (omega (arith, outlook .kept .1 .1 .1 .0, outlook .ensures .3)))
 
 count-trades-requires : tie.Need-count-trades-requires
-count-trades-requires c κs = (rw (c .before .before .before .before .before .before .before .before .before .before .outlook .ensures .2) (ranks-few (c .before .before .before .before .before .before .before .before .before .before .before .before .before .args .t1 .book) (c .before .before .before .before .before .before .before .before .before .before .before .before .before .args .auction) Buy), rw (c .before .before .before .before .before .before .before .before .before .before .outlook .ensures .4) (ranks-few (c .before .before .before .before .before .before .before .before .before .before .before .before .before .args .t1 .book) (c .before .before .before .before .before .before .before .before .before .before .before .before .before .args .auction) Sell))
+count-trades-requires c κs =
+    let a = c .before .before .before .before .before .before .before .before .before .before .before .before .before .args in
+    let outlook = c .before .before .before .before .before .before .before .before .before .before .outlook in
+    (rw (outlook .ensures .2) (ranks-few (a .t1 .book) (a .auction) Buy), rw (outlook .ensures .4) (ranks-few (a .t1 .book) (a .auction) Sell))
 
 answer-with-requires : tie.Need-answer-with-requires
 answer-with-requires c κs = search needs
@@ -60,19 +67,35 @@ answer-with-requires-4 c κs = search needs
 
 returns : tie.Need-returns
 returns c =
-    foretold (c .before .before .before .before .before .before .before .before .before .before .before .before .before .before .before .args .t1) (c .before .before .before .before .before .before .before .before .before .before .before .before .before .before .before .pre .0) (c .before .before .before .before .before .before .before .before .before .before .before .before .before .before .before .args .auction) (Traded (c .before .before .before .before .before .before .before .before .outcome .given .0 .0) (c .before .before .before .before .before .before .before .before .outcome .given .0 .1 .0)) (sym (c .before .before .before .before .before .before .before .before .outcome .given .1) ∙ c .before .before .before .before .before .before .before .before .before .before .before .before .outlook .ensures .0) (c .answer-with .result) (c .before .count-trades .result)
-    (trades-counted (c .before .before .before .before .before .before .before .before .before .before .before .before .before .before .before .args .t1) (c .before .before .before .before .before .before .before .before .before .before .before .before .before .before .before .pre .0) (c .before .before .before .before .before .before .before .before .before .before .before .before .before .before .before .args .auction) (take (c .before .before .before .before .before .before .before .before .before .before .before .before .outlook .result .bids) (c .before .before .before .before .before .before .before .before .before .before .before .before .outlook .last .1 .1 .0)) (take (c .before .before .before .before .before .before .before .before .before .before .before .before .outlook .result .asks) (c .before .before .before .before .before .before .before .before .before .before .before .before .outlook .last .1 .1 .1 .0)) (c .before .before .before .before .before .before .before .before .before .before .before .before .outlook .ensures .2) (c .before .before .before .before .before .before .before .before .before .before .before .before .outlook .ensures .4)
-    (c .before .before .before .before .before .before .before .before .outcome .given .0 .1 .0) (c .before .count-trades .result) (c .before .count-trades .ensures))
+    let start = c .before .before .before .before .before .before .before .before .before .before .before .before .before .before .before in
+    let a = start .args in
+    let outlook = c .before .before .before .before .before .before .before .before .before .before .before .before .outlook in
+    let outcome = c .before .before .before .before .before .before .before .before .outcome in
+    foretold (a .t1) (start .pre .0) (a .auction) (Traded (outcome .given .0 .0) (outcome .given .0 .1 .0)) (sym (outcome .given .1) ∙ outlook .ensures .0) (c .answer-with .result) (c .before .count-trades .result)
+    (trades-counted (a .t1) (start .pre .0) (a .auction) (take (outlook .result .bids) (outlook .last .1 .1 .0)) (take (outlook .result .asks) (outlook .last .1 .1 .1 .0)) (outlook .ensures .2) (outlook .ensures .4)
+    (outcome .given .0 .1 .0) (c .before .count-trades .result) (c .before .count-trades .ensures))
     (c .answer-with .ensures)
 
 returns-2 : tie.Need-returns-2
-returns-2 c = foretold (c .before .before .before .before .before .before .before .before .args .t1) (c .before .before .before .before .before .before .before .before .pre .0) (c .before .before .before .before .before .before .before .before .args .auction) NoTrade (sym (c .before .enum-told .given .1) ∙ c .before .before .before .before .before .outlook .ensures .0) (c .answer-with2 .result) 0 refl (c .answer-with2 .ensures ∙ rw (c .before .enum-told .given .1))
+returns-2 c =
+    let start = c .before .before .before .before .before .before .before .before in
+    let a = start .args in
+    let outlook = c .before .before .before .before .before .outlook in
+    foretold (a .t1) (start .pre .0) (a .auction) NoTrade (sym (c .before .enum-told .given .1) ∙ outlook .ensures .0) (c .answer-with2 .result) 0 refl (c .answer-with2 .ensures ∙ rw (c .before .enum-told .given .1))
 
 returns-3 : tie.Need-returns-3
-returns-3 c = foretold (c .before .before .before .before .before .before .before .before .args .t1) (c .before .before .before .before .before .before .before .before .pre .0) (c .before .before .before .before .before .before .before .before .args .auction) NonOpening (sym (c .before .enum-told2 .given .1) ∙ c .before .before .before .before .before .outlook .ensures .0) (c .answer-with3 .result) 0 refl (c .answer-with3 .ensures ∙ rw (c .before .enum-told2 .given .1))
+returns-3 c =
+    let start = c .before .before .before .before .before .before .before .before in
+    let a = start .args in
+    let outlook = c .before .before .before .before .before .outlook in
+    foretold (a .t1) (start .pre .0) (a .auction) NonOpening (sym (c .before .enum-told2 .given .1) ∙ outlook .ensures .0) (c .answer-with3 .result) 0 refl (c .answer-with3 .ensures ∙ rw (c .before .enum-told2 .given .1))
 
 returns-4 : tie.Need-returns-4
-returns-4 c = foretold (c .before .before .before .before .before .before .before .before .before .args .t1) (c .before .before .before .before .before .before .before .before .before .pre .0) (c .before .before .before .before .before .before .before .before .before .args .auction) (Delayed (c .before .before .outcome2 .given .0 .0) (c .before .before .outcome2 .given .0 .1 .0)) (sym (c .before .before .outcome2 .given .1) ∙ c .before .before .before .before .before .before .outlook .ensures .0) (c .answer-with4 .result) 0 refl (c .answer-with4 .ensures)
+returns-4 c =
+    let start = c .before .before .before .before .before .before .before .before .before in
+    let a = start .args in
+    let outlook = c .before .before .before .before .before .before .outlook in
+    foretold (a .t1) (start .pre .0) (a .auction) (Delayed (c .before .before .outcome2 .given .0 .0) (c .before .before .outcome2 .given .0 .1 .0)) (sym (c .before .before .outcome2 .given .1) ∙ outlook .ensures .0) (c .answer-with4 .result) 0 refl (c .answer-with4 .ensures)
 
 pub foreseen-spec : {M : Type 1} → statement M
 foreseen-spec =

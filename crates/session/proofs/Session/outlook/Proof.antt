@@ -19,21 +19,29 @@ slice-reshare-prefix-outcome-now : tie.Need-slice-reshare-prefix-outcome-now
 slice-reshare-prefix-outcome-now c = search needs
 
 slice-aggregate-outcome-now : tie.Need-slice-aggregate-outcome-now
-slice-aggregate-outcome-now c = sym (length-take-le (c .before .before .before .before .before .before .before .before .before .before .before .before .before .before .before .before .ranked .result) (c .before .before .before .before .before .before .before .before .before .before .before .before .before .before .before .before .ranked .last .0) (omega (arith, c .before .before .before .before .before .before .before .before .before .before .before .before .before .before .before .before .ranked .kept .0, c .before .before .before .before .before .before .before .before .before .before .before .before .before .before .before .before .ranked .ensures .0, c .before .before .before .before .before .before .before .before .before .before .before .before .before .before .before .before .before .before .before .before .before .before .before .before .before .pre .2)))
+slice-aggregate-outcome-now c =
+    let pre = c .before .before .before .before .before .before .before .before .before .before .before .before .before .before .before .before .before .before .before .before .before .before .before .before .before .pre in
+    let ranked = c .before .before .before .before .before .before .before .before .before .before .before .before .before .before .before .before .ranked in
+    sym (length-take-le (ranked .result) (ranked .last .0) (omega (arith, ranked .kept .0, ranked .ensures .0, pre .2)))
 
 slice-reshare-prefix-outcome-now-2 : tie.Need-slice-reshare-prefix-outcome-now-2
 slice-reshare-prefix-outcome-now-2 c = search needs
 
 slice-aggregate-outcome-now-2 : tie.Need-slice-aggregate-outcome-now-2
-slice-aggregate-outcome-now-2 c = sym (length-take-le (c .before .before .before .before .before .before .before .before .ranked2 .result) (c .before .before .before .before .before .before .before .before .ranked2 .last .0) (omega (arith, c .before .before .before .before .before .before .before .before .ranked2 .kept .0, c .before .before .before .before .before .before .before .before .ranked2 .ensures .0, c .before .before .before .before .before .before .before .before .before .before .before .before .before .before .before .before .before .before .before .before .before .before .before .before .before .before .pre .3)))
+slice-aggregate-outcome-now-2 c =
+    let pre = c .before .before .before .before .before .before .before .before .before .before .before .before .before .before .before .before .before .before .before .before .before .before .before .before .before .before .pre in
+    let ranked2 = c .before .before .before .before .before .before .before .before .ranked2 in
+    sym (length-take-le (ranked2 .result) (ranked2 .last .0) (omega (arith, ranked2 .kept .0, ranked2 .ensures .0, pre .3)))
 
 outcome-now-requires : tie.Need-outcome-now-requires
 outcome-now-requires c κs =
+    let ranked = c .before .before .before .before .before .before .before .before .before .before .before .before .before .before .before .before .before .ranked in
+    let ranked2 = c .before .before .before .before .before .before .before .before .ranked2 in
     let a = c .before .before .before .before .before .before .before .before .before .before .before .before .before .before .before .before .before .before .before .before .before .before .before .before .before .before .args in (
-      rw (c .before .before .before .before .before .before .before .before .before .before .before .before .before .before .before .before .before .ranked .ensures .1) (ranks-ascend (a .t1 .book) (a .auction) Buy),
-      rw (c .before .before .before .before .before .before .before .before .before .before .before .before .before .before .before .before .before .ranked .ensures .1) (ranks-few (a .t1 .book) (a .auction) Buy),
-      rw (c .before .before .before .before .before .before .before .before .ranked2 .ensures .1) (ranks-ascend (a .t1 .book) (a .auction) Sell),
-      rw (c .before .before .before .before .before .before .before .before .ranked2 .ensures .1) (ranks-few (a .t1 .book) (a .auction) Sell),
+      rw (ranked .ensures .1) (ranks-ascend (a .t1 .book) (a .auction) Buy),
+      rw (ranked .ensures .1) (ranks-few (a .t1 .book) (a .auction) Buy),
+      rw (ranked2 .ensures .1) (ranks-ascend (a .t1 .book) (a .auction) Sell),
+      rw (ranked2 .ensures .1) (ranks-few (a .t1 .book) (a .auction) Sell),
     )
 
 same-length : tie.Need-same-length
@@ -44,12 +52,15 @@ same-length-2 c = search needs
 
 returns : tie.Need-returns
 returns c =
+    let pre = c .before .before .before .before .before .before .before .before .before .before .before .before .before .before .before .before .before .before .before .before .before .before .before .before .before .before .before .pre in
+    let ranked = c .before .before .before .before .before .before .before .before .before .before .before .before .before .before .before .before .before .before .ranked in
+    let ranked2 = c .before .before .before .before .before .before .before .before .before .ranked2 in
     let a = c .before .before .before .before .before .before .before .before .before .before .before .before .before .before .before .before .before .before .before .before .before .before .before .before .before .before .before .args in (
-      outcome-by-ranks (a .t1) (c .before .before .before .before .before .before .before .before .before .before .before .before .before .before .before .before .before .before .before .before .before .before .before .before .before .before .before .pre .0) (a .auction) (c .before .before .before .before .before .before .before .before .before .before .before .before .before .before .before .before .before .before .before .before .before .before .before .before .before .before .before .pre .1) (take (c .before .before .before .before .before .before .before .before .before .before .before .before .before .before .before .before .before .before .ranked .result) (c .before .before .before .before .before .before .before .before .before .before .before .before .before .before .before .before .before .before .ranked .last .0)) (take (c .before .before .before .before .before .before .before .before .before .ranked2 .result) (c .before .before .before .before .before .before .before .before .before .ranked2 .last .0)) (c .before .before .before .before .before .before .before .before .before .before .before .before .before .before .before .before .before .before .ranked .ensures .1) (c .before .before .before .before .before .before .before .before .before .ranked2 .ensures .1) (c .outcome-now .result) (c .outcome-now .ensures),
-      c .before .before .before .before .before .before .before .before .before .before .before .before .before .before .before .before .before .before .ranked .ensures .0,
-      c .before .before .before .before .before .before .before .before .before .before .before .before .before .before .before .before .before .before .ranked .ensures .1,
-      c .before .before .before .before .before .before .before .before .before .ranked2 .ensures .0,
-      c .before .before .before .before .before .before .before .before .before .ranked2 .ensures .1,
+      outcome-by-ranks (a .t1) (pre .0) (a .auction) (pre .1) (take (ranked .result) (ranked .last .0)) (take (ranked2 .result) (ranked2 .last .0)) (ranked .ensures .1) (ranked2 .ensures .1) (c .outcome-now .result) (c .outcome-now .ensures),
+      ranked .ensures .0,
+      ranked .ensures .1,
+      ranked2 .ensures .0,
+      ranked2 .ensures .1,
     )
 
 pub outlook-spec : {M : Type 1} → statement M

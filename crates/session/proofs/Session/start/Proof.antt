@@ -1,6 +1,6 @@
 use mathlib.Core.Path.{_∙_, sym}
 use Rattle.terms.specs.Made.{parameters-refused, parameters-good}
-use Rattle.session.specs.Checks.{firstHit}
+use Rattle.refusals.specs.Checks.{firstHit}
 use Rattle.session.specs.Entry.{started}
 use borrow.Author.Needs.{needs}
 use Rattle.session.proofs.Session.start.Statement.{statement}
@@ -25,13 +25,17 @@ has-started-requires c κs = search needs
 returns-2 : tie.Need-returns-2
 unfolding started firstHit
 returns-2 c =
-    let good = parameters-good _ _ _ _ _ _ (sym (c .before .before .before .before .before .new .ensures) ∙ c .before .before .before .parameters .given .1) in
+    let new = c .before .before .before .before .before .new in
+    let parameters = c .before .before .before .parameters in
+    let good = parameters-good _ _ _ _ _ _ (sym (new .ensures) ∙ parameters .given .1) in
     rw (good .0, sym (c .before .has-started .ensures) ∙ c .if1 .taken)
 
 returns-3 : tie.Need-returns-3
 unfolding started firstHit
 returns-3 c =
-    let good = parameters-good _ _ _ _ _ _ (sym (c .before .before .before .before .before .before .new .ensures) ∙ c .before .before .before .before .parameters .given .1) in
+    let new = c .before .before .before .before .before .before .new in
+    let parameters = c .before .before .before .before .parameters in
+    let good = parameters-good _ _ _ _ _ _ (sym (new .ensures) ∙ parameters .given .1) in
     rw (good .0, sym (c .before .before .has-started .ensures) ∙ c .before .if1 .left, good .1)
 
 pub start-spec : {M : Type 1} → statement M

@@ -26,13 +26,28 @@ no-answer-requires-2 : tie.Need-no-answer-requires-2
 no-answer-requires-2 c κs = search needs
 
 returns-2 : tie.Need-returns-2
-returns-2 c = absurd (theoretical-called (c .before .before .before .before .before .before .args .self) (c .before .before .before .before .before .before .args .which) (sym (c .before .before .before .before .before .theoretical-refusal .ensures) ∙ c .before .before .before .before .if1 .left) (c .before .before .before .new .ensures) (c .before .enum-told .given .1))
+returns-2 c =
+    let a = c .before .before .before .before .before .before .args in
+    let theoretical-refusal = c .before .before .before .before .before .theoretical-refusal in
+    let if1 = c .before .before .before .before .if1 in
+    let new = c .before .before .before .new in
+    absurd (theoretical-called (a .self) (a .which) (sym (theoretical-refusal .ensures) ∙ if1 .left) (new .ensures) (c .before .enum-told .given .1))
 
 foreseen-requires : tie.Need-foreseen-requires
-foreseen-requires c κs = (c .before .before .before .before .before .before .pre, theoretical-started (c .before .before .before .before .before .before .args .self) (c .before .before .before .before .before .before .args .which) (sym (c .before .before .before .before .before .theoretical-refusal .ensures) ∙ c .before .before .before .before .if1 .left))
+foreseen-requires c κs =
+    let start = c .before .before .before .before .before .before in
+    let a = start .args in
+    let theoretical-refusal = c .before .before .before .before .before .theoretical-refusal in
+    let if1 = c .before .before .before .before .if1 in
+    (start .pre, theoretical-started (a .self) (a .which) (sym (theoretical-refusal .ensures) ∙ if1 .left))
 
 returns-3 : tie.Need-returns-3
-returns-3 c = theoretical-foreseen (c .before .before .before .before .before .before .before .args .self) (c .before .before .before .before .before .before .before .args .which) (sym (c .before .before .before .before .before .before .theoretical-refusal .ensures) ∙ c .before .before .before .before .before .if1 .left) (c .before .before .auction .given .0 .0) (sym (c .before .before .before .before .new .ensures) ∙ c .before .before .auction .given .1) (c .foreseen .result) (c .foreseen .ensures)
+returns-3 c =
+    let a = c .before .before .before .before .before .before .before .args in
+    let theoretical-refusal = c .before .before .before .before .before .before .theoretical-refusal in
+    let if1 = c .before .before .before .before .before .if1 in
+    let new = c .before .before .before .before .new in
+    theoretical-foreseen (a .self) (a .which) (sym (theoretical-refusal .ensures) ∙ if1 .left) (c .before .before .auction .given .0 .0) (sym (new .ensures) ∙ c .before .before .auction .given .1) (c .foreseen .result) (c .foreseen .ensures)
 
 pub theoretical-spec : {M : Type 1} → statement M
 theoretical-spec =

@@ -35,11 +35,12 @@ same-length-2 c = search needs
 
 returns : tie.Need-returns
 returns c =
+    let trade-lines = c .before .before .before .trade-lines in
     let s = c .before .before .before .before .before .before .before .before .before .before .before .before .before .before .before .before .before .before in
     let r = c .before .before .before .before .before .before .before .before .before .before .before .before .before .before .auction in
     let w = c .before .before .before .before .before .before .before .before .before .line-of in
     wrote-both (s .args .place) _ _ _ _ _ _ (auctionStep (r .result) (tradesRead (r .result .result .count) (r .last .1 .1 .0))) _ (omega (arith, s .pre .2))
-    (auction-step _ _ _ _ (r .result) (s .pre .1) (r .ensures)) refl (w .ensures) (c .before .before .before .trade-lines .ensures)
+    (auction-step _ _ _ _ (r .result) (s .pre .1) (r .ensures)) refl (w .ensures) (trade-lines .ensures)
 
 pub auction-written-spec : {M : Type 1} → statement M
 auction-written-spec =

@@ -16,7 +16,11 @@ same-length : tie.Need-same-length
 same-length c = search needs
 
 returns : tie.Need-returns
-returns c = wrote-alone (c .before .before .before .before .before .before .before .args .place) _ _ _ _ (deleteStep (c .before .before .before .before .before .delete .result)) _ (ap deleteStep (c .before .before .before .before .before .delete .ensures)) refl refl (c .before .before .before .line-of .ensures)
+returns c =
+    let a = c .before .before .before .before .before .before .before .args in
+    let delete = c .before .before .before .before .before .delete in
+    let line-of = c .before .before .before .line-of in
+    wrote-alone (a .place) _ _ _ _ (deleteStep (delete .result)) _ (ap deleteStep (delete .ensures)) refl refl (line-of .ensures)
 
 pub delete-written-spec : {M : Type 1} → statement M
 delete-written-spec = tie.close (tie.spec delete-requires line-of-requires same-length returns)

@@ -16,7 +16,11 @@ same-length : tie.Need-same-length
 same-length c = search needs
 
 returns : tie.Need-returns
-returns c = wrote-alone (c .before .before .before .before .before .before .before .args .place) _ _ _ _ (orderStep (c .before .before .before .before .before .order .result)) _ (ap orderStep (c .before .before .before .before .before .order .ensures)) refl refl (c .before .before .before .line-of .ensures)
+returns c =
+    let a = c .before .before .before .before .before .before .before .args in
+    let order = c .before .before .before .before .before .order in
+    let line-of = c .before .before .before .line-of in
+    wrote-alone (a .place) _ _ _ _ (orderStep (order .result)) _ (ap orderStep (order .ensures)) refl refl (line-of .ensures)
 
 pub order-written-spec : {M : Type 1} → statement M
 order-written-spec = tie.close (tie.spec order-requires line-of-requires same-length returns)

@@ -16,7 +16,11 @@ same-length : tie.Need-same-length
 same-length c = search needs
 
 returns : tie.Need-returns
-returns c = wrote-alone (c .before .before .before .before .before .before .before .args .place) _ _ _ _ (startStep (c .before .before .before .before .before .start .result)) _ (ap startStep (c .before .before .before .before .before .start .ensures)) refl refl (c .before .before .before .line-of .ensures)
+returns c =
+    let a = c .before .before .before .before .before .before .before .args in
+    let start = c .before .before .before .before .before .start in
+    let line-of = c .before .before .before .line-of in
+    wrote-alone (a .place) _ _ _ _ (startStep (start .result)) _ (ap startStep (start .ensures)) refl refl (line-of .ensures)
 
 pub start-written-spec : {M : Type 1} → statement M
 start-written-spec = tie.close (tie.spec start-requires line-of-requires same-length returns)

@@ -31,19 +31,25 @@ same-length : tie.Need-same-length
 same-length c = search needs
 
 returns : tie.Need-returns
-returns c = rw (c .before .before .before .before .before .asked .given .1) (c .before .before .start-written .ensures)
+returns c =
+    let asked = c .before .before .before .before .before .asked in
+    rw (asked .given .1) (c .before .before .start-written .ensures)
 
 same-length-2 : tie.Need-same-length-2
 same-length-2 c = search needs
 
 returns-2 : tie.Need-returns-2
-returns-2 c = rw (c .before .before .before .before .before .asked2 .given .1) (c .before .before .order-written .ensures)
+returns-2 c =
+    let asked2 = c .before .before .before .before .before .asked2 in
+    rw (asked2 .given .1) (c .before .before .order-written .ensures)
 
 same-length-3 : tie.Need-same-length-3
 same-length-3 c = search needs
 
 returns-3 : tie.Need-returns-3
-returns-3 c = rw (c .before .before .before .before .before .asked3 .given .1) (c .before .before .delete-written .ensures)
+returns-3 c =
+    let asked3 = c .before .before .before .before .before .asked3 in
+    rw (asked3 .given .1) (c .before .before .delete-written .ensures)
 
 same-length-4 : tie.Need-same-length-4
 same-length-4 c = search needs
@@ -52,7 +58,10 @@ same-length-5 : tie.Need-same-length-5
 same-length-5 c = search needs
 
 returns-4 : tie.Need-returns-4
-returns-4 c = rw (c .before .before .before .before .before .before .before .before .asked4 .given .1) (c .before .before .before .before .auction-written .ensures)
+returns-4 c =
+    let asked4 = c .before .before .before .before .before .before .before .before .asked4 in
+    let auction-written = c .before .before .before .before .auction-written in
+    rw (asked4 .given .1) (auction-written .ensures)
 
 pub written-spec : {M : Type 1} → statement M
 written-spec =

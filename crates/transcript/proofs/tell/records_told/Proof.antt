@@ -31,45 +31,61 @@ enum-known-next c = search needs
 
 add-count : tie.Need-add-count Inv-loop μ-loop
 add-count c =
+    let pre = c .before .before .before .before .before .before .before .before .pre in
+    let front = c .before .before .before .front in
     let a = c .before .before .before .before .before .before .before .before .args in
     let l = c .before .before .before .before .loop in
-    let f = front-record (a .bytes .now) (l .place) (a .ended) (length (l .out) - l .at) (sym (c .before .before .before .front .ensures) ∙ c .before .next .given .1) in
-    omega (arith, c .before .before .before .before .before .before .before .before .pre .2, l .inv .0 .counted, f .0, f .1)
+    let f = front-record (a .bytes .now) (l .place) (a .ended) (length (l .out) - l .at) (sym (front .ensures) ∙ c .before .next .given .1) in
+    omega (arith, pre .2, l .inv .0 .counted, f .0, f .1)
 
 written-requires : tie.Need-written-requires Inv-loop μ-loop
 written-requires c κs =
+    let front = c .before .before .before .before .before .front in
+    let next = c .before .before .before .next in
     let a = c .before .before .before .before .before .before .before .before .before .before .args in
     let l = c .before .before .before .before .before .before .loop in
-    let f = front-record (a .bytes .now) (l .place) (a .ended) (length (l .out) - l .at) (sym (c .before .before .before .before .before .front .ensures) ∙ c .before .before .before .next .given .1) in
+    let f = front-record (a .bytes .now) (l .place) (a .ended) (length (l .out) - l .at) (sym (front .ensures) ∙ next .given .1) in
     (l .inv .0 .sound, l .inv .1, omega (arith, f .2, l .inv .0 .at-within))
 
 loop-less : tie.Need-loop-less Inv-loop μ-loop
 loop-less c =
+    let front = c .before .before .before .before .before .before .before .before .before .before .before .front in
+    let next = c .before .before .before .before .before .before .before .before .before .next in
     let a = c .before .before .before .before .before .before .before .before .before .before .before .before .before .before .before .before .args in
     let l = c .before .before .before .before .before .before .before .before .before .before .before .before .loop in
-    let f = front-record (a .bytes .now) (l .place) (a .ended) (length (l .out) - l .at) (sym (c .before .before .before .before .before .before .before .before .before .before .before .front .ensures) ∙ c .before .before .before .before .before .before .before .before .before .next .given .1) in
+    let f = front-record (a .bytes .now) (l .place) (a .ended) (length (l .out) - l .at) (sym (front .ensures) ∙ next .given .1) in
     omega (arith, f .0, f .1)
 
 loop-again : tie.Need-loop-again Inv-loop μ-loop
 loop-again c =
+    let front = c .before .before .before .before .before .before .before .before .before .before .before .front in
+    let next = c .before .before .before .before .before .before .before .before .before .next in
+    let written = c .before .before .before .before .before .written in
     let a = c .before .before .before .before .before .before .before .before .before .before .before .before .before .before .before .before .args in
     let l = c .before .before .before .before .before .before .before .before .before .before .before .before .loop in (
-      underway-next (a .ended) (a .bytes .now) (a .out .now) (a .session) (a .answered) (l .inv .0) (sym (c .before .before .before .before .before .before .before .before .before .next .given .1) ∙ c .before .before .before .before .before .before .before .before .before .before .before .front .ensures) (c .before .before .before .before .before .written .ensures) (c .before .before .before .before .before .written .kept .1 .1 .1 .1 .0),
-      c .before .before .before .before .before .written .kept .1 .1 .0 ∙ l .inv .1,
-      c .before .before .before .before .before .written .kept .1 .1 .0 ∙ l .inv .2,
+      underway-next (a .ended) (a .bytes .now) (a .out .now) (a .session) (a .answered) (l .inv .0) (sym (next .given .1) ∙ front .ensures) (written .ensures) (written .kept .1 .1 .1 .1 .0),
+      written .kept .1 .1 .0 ∙ l .inv .1,
+      written .kept .1 .1 .0 ∙ l .inv .2,
     )
 
 enum-known-next-2 : tie.Need-enum-known-next-2 Inv-loop μ-loop
 enum-known-next-2 c = search needs
 
 same-length : tie.Need-same-length Inv-loop μ-loop
-same-length c = c .before .before .before .before .loop .inv .2
+same-length c =
+    let loop = c .before .before .before .before .loop in
+    loop .inv .2
 
 same-length-2 : tie.Need-same-length-2 Inv-loop μ-loop
-same-length-2 c = c .before .before .before .before .loop .inv .0 .as-long
+same-length-2 c =
+    let loop = c .before .before .before .before .loop in
+    loop .inv .0 .as-long
 
 returns : tie.Need-returns Inv-loop μ-loop
-returns c = let a = c .before .before .before .before .before .before .before .before .args in let u = c .before .before .before .before .loop .inv .0 in (underway-stop (a .ended) (a .bytes .now) (a .out .now) (a .session) (a .answered) u (sym (c .before .next2 .given .1) ∙ c .before .before .before .front .ensures), omega (arith, u .as-long, u .at-within), u .only-text)
+returns c =
+    let loop = c .before .before .before .before .loop in
+    let front = c .before .before .before .front in
+    let a = c .before .before .before .before .before .before .before .before .args in let u = loop .inv .0 in (underway-stop (a .ended) (a .bytes .now) (a .out .now) (a .session) (a .answered) u (sym (c .before .next2 .given .1) ∙ front .ensures), omega (arith, u .as-long, u .at-within), u .only-text)
 
 pub records-told-spec : {M : Type 1} → statement M
 records-told-spec =

@@ -15,7 +15,9 @@ same-length : tie.Need-same-length
 same-length c = search needs
 
 returns : tie.Need-returns
-returns c = rw (c .before .before .before .before .fresh .ensures) at (c .before .before .told .ensures)
+returns c =
+    let fresh = c .before .before .before .before .fresh in
+    rw (fresh .ensures) at (c .before .before .told .ensures)
 
 pub transcribed-spec : {M : Type 1} → statement M
 transcribed-spec = tie.close (tie.spec fresh-requires told-requires same-length returns)

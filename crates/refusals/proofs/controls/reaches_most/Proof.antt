@@ -1,0 +1,21 @@
+use borrow.Author.Needs.{needs}
+use Rattle.refusals.proofs.controls.reaches_most.Statement.{statement}
+use Rattle.refusals.proofs.controls.reaches_most.Tie as tie
+
+enum-told : tie.Need-enum-told
+enum-told c = search needs
+
+enum-known-limit : tie.Need-enum-known-limit
+enum-known-limit c = search needs
+
+of-requires : tie.Need-of-requires
+of-requires c κs = search needs
+
+returns : tie.Need-returns
+returns c = search needs
+
+returns-2 : tie.Need-returns-2
+returns-2 c = rw (c .before .before .limit .given .1, c .of .ensures)
+
+pub reaches-most-spec : {M : Type 1} → statement M
+reaches-most-spec = tie.close (tie.spec enum-told enum-known-limit of-requires returns returns-2)

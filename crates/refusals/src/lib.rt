@@ -1,0 +1,15 @@
+// Refusals: in which phase a call is allowed, the controls of an entry, and which number a call answers
+// (01 "Phases" and "Refusals by number").
+mod checks;
+mod controls;
+mod phases;
+
+pub use checks::auction_refusal;
+pub use checks::delete_refusal;
+pub use checks::front_refusal;
+pub use checks::order_refusal;
+pub use checks::ranked_refusal;
+pub use checks::theoretical_refusal;
+pub use phases::Phase;
+pub use phases::has_started;
+pub use phases::phase_after;
