@@ -41,7 +41,7 @@ awk -F/ '/^Trace/ {
     END { printf "%d %d\n", n, bytes }' "$dir/trace" >"$dir/counts" &
 reader=$!
 # An empty environment: it lies on the stack, whose place decides how a move is cut up.
-env -i "$emulator" -one-insn-per-tb -d nochain,exec -D "$dir/trace" "$@" <"$in" >/dev/null || {
+env -i "$emulator" "$single" -d nochain,exec -D "$dir/trace" "$@" <"$in" >/dev/null || {
     # it may wait for a trace that never comes
     kill "$reader" 2>/dev/null
     fail "the emulator did not run $program"

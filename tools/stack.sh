@@ -51,7 +51,7 @@ awk -v program="\"$program\"" -v at="$at" '
     !top && start && /^RIP=/ && substr($1, 5) == start { top = low = rsp }
     END { if (most) printf "%d\n", most + 8 }' "$dir/trace" >"$dir/most" &
 reader=$!
-env -i "$emulator" -one-insn-per-tb -d nochain,cpu,strace -D "$dir/trace" "$@" <"$in" >/dev/null || {
+env -i "$emulator" "$single" -d nochain,cpu,strace -D "$dir/trace" "$@" <"$in" >/dev/null || {
     # it may wait for a trace that never comes
     kill "$reader" 2>/dev/null
     fail "the emulator did not run $program"

@@ -5,6 +5,9 @@ machine=$(uname -m)
 tools=$(dirname "$(dirname "$(rt doc)")")/on/$machine/toolchain
 emulator=$tools/bin/qemu-x86_64
 [ -x "$emulator" ] || emulator=$(command -v qemu-x86_64)
+# What tells the emulator to trace one instruction at a time; its name before qemu 8 was another.
+single=-one-insn-per-tb
+[ -z "$emulator" ] || "$emulator" -help | grep -q -e "$single" || single=-singlestep
 
 # Without erms the C library doesn't copy by string moves, which are emulated byte by byte: some thirty times slower.
 words="'$emulator' -cpu max,-erms '$tools/lib/ld-linux-x86-64.so.2' --library-path '$tools/lib'"
