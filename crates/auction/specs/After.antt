@@ -5,8 +5,8 @@ use mathlib.Core.Option.{Option, none, some}
 use mathlib.Core.List.{List}
 use lib.Dec.{eqb}
 use Rattle.terms.specs.declared.orders.{Auction.Auction, Auction.the-variants.Opening, Auction.the-variants.Closing, Validity.Validity, Validity.the-variants.AtOpening, Validity.the-variants.AtClose, Validity.the-variants.Day, Validity.the-variants.LaterDay, Order.Order}
-use Rattle.auction.specs.declared.{Trade.Trade}
-use Rattle.auction.specs.Trades.{traded}
+use Rattle.trades.specs.declared.{Trade.Trade}
+use Rattle.trades.specs.Trades.{traded}
 
 -- of an order, what it had less what the trades gave it
 abbrev pub remaining : List Trade → Order → Order

@@ -7,12 +7,12 @@ use native.Mathlib.Omega.{arith}
 use lib.ListN.{length}
 use Rattle.terms.specs.declared.orders.{Side.the-variants.Buy, Side.the-variants.Sell, Auction.Auction}
 use Rattle.queue.specs.Ranks.{rankBound, along}
-use Rattle.queue.specs.Shares.{lessened}
+use Rattle.fills.specs.Shares.{lessened}
 use Rattle.price.specs.declared.search.{Found.Found}
 use Rattle.price.specs.Search.{sumBelow, offered, searchedIn}
 use Rattle.auction.specs.declared.{Outcome.Outcome}
 use Rattle.auction.specs.Decided.{outcomeFrom}
-use Rattle.auction.specs.Fronts.{sharePairs, numbersLeft, sharesLeft, pairedShares}
+use Rattle.trades.specs.Fronts.{sharePairs, numbersLeft, sharesLeft, pairedShares}
 use Rattle.auction.specs.Trading.{sumsOf, sharesIn, outcomeIn, tradesIn, restsIn}
 
 -- There are no more trades than shares.

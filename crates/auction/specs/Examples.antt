@@ -11,9 +11,10 @@ use Rattle.queue.specs.Rank.{ranked}
 use Rattle.price.specs.Interest.{interest}
 use Rattle.price.specs.Candidates.{mostExecutable}
 use Rattle.price.specs.Chain.{auctionPrice}
-use Rattle.auction.specs.declared.{Trade.Trade, Outcome.Outcome, Outcome.the-variants.Traded, Outcome.the-variants.NoTrade, Outcome.the-variants.NonOpening, Outcome.the-variants.Delayed}
-use Rattle.auction.specs.Trades.{traded}
-use Rattle.auction.specs.Fills.{fills, tradesOf}
+use Rattle.trades.specs.declared.{Trade.Trade}
+use Rattle.auction.specs.declared.{Outcome.Outcome, Outcome.the-variants.Traded, Outcome.the-variants.NoTrade, Outcome.the-variants.NonOpening, Outcome.the-variants.Delayed}
+use Rattle.trades.specs.Trades.{traded}
+use Rattle.trades.specs.Fills.{fills, tradesOf}
 use Rattle.auction.specs.Outcome.{nonOpening, outcome, trades}
 use Rattle.auction.specs.After.{restOf}
 

@@ -1,13 +1,7 @@
 -- The auction: 01 "Outcomes".
-pub mod Trades
-pub mod Pairing
-pub mod Fills
 pub mod Outcome
 pub mod After
 pub mod Decided
-pub mod Written
-pub mod Fronts
-pub mod Turns
 pub mod Settled
 pub mod Trading
 pub mod Composed

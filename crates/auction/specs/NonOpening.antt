@@ -13,12 +13,12 @@ use Rattle.terms.specs.declared.orders.{Side.Side, Side.the-variants.Buy, Side.
 use Rattle.queue.specs.Sides.{isUnlimited, sameSide-eq, sameSide-refl}
 use Rattle.queue.specs.Distinct.{Distinct, distinct-sum}
 use Rattle.queue.specs.Rank.{onSide, betterLimit, ahead-limit, ranked, ranked-in-order}
-use Rattle.queue.specs.Fill.{FrontPart, ranked-front}
+use Rattle.fills.specs.Fill.{FrontPart, ranked-front}
 use Rattle.price.specs.Interest.{interest, executable}
 use Rattle.price.specs.Candidates.{limits, mostExecutable}
-use Rattle.auction.specs.declared.{Trade.Trade}
-use Rattle.auction.specs.Trades.{party, traded, volume, TradeList, volume-le-most}
-use Rattle.auction.specs.Fills.{tradesOf, traded-front, trades-possible}
+use Rattle.trades.specs.declared.{Trade.Trade}
+use Rattle.trades.specs.Trades.{party, traded, volume, TradeList, volume-le-most}
+use Rattle.trades.specs.Fills.{tradesOf, traded-front, trades-possible}
 use Rattle.auction.specs.Outcome.{unlimited, nonOpening}
 
 -- each unlimited order trades all that it has open

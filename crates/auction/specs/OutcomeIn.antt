@@ -24,7 +24,7 @@ use Rattle.queue.specs.Part.{takingPart, takingPart-elim, takingPart-distinct}
 use Rattle.queue.specs.Distinct.{Distinct}
 use Rattle.queue.specs.Rank.{onSide, ranked, ranked-elim, ranked-intro}
 use Rattle.queue.specs.Ranks.{limitRoom, placeOfRank, rankBound, along}
-use Rattle.queue.specs.Shares.{sumsFrom}
+use Rattle.fills.specs.Shares.{sumsFrom}
 use Rattle.queue.specs.Reach.{resting-sound, resting-distinct}
 use Rattle.queue.specs.Queue.{allows-below, unlimited-below, ranks-known, ranked-by-ranks}
 use Rattle.price.specs.declared.search.{Found.Found}
@@ -34,7 +34,7 @@ use Rattle.price.specs.Chain.{auctionPrice}
 use Rattle.price.specs.Search.{offered, searchedIn}
 use Rattle.price.specs.Ladder.{sum-below-front, offered-is-interest}
 use Rattle.price.specs.Searched.{searched-most, searched-price}
-use Rattle.auction.specs.Fills.{queue-left}
+use Rattle.trades.specs.Fills.{queue-left}
 use Rattle.auction.specs.NonOpening.{unlimited-front}
 use Rattle.auction.specs.Outcome.{unlimited, outcome}
 use Rattle.auction.specs.Decided.{decided}

@@ -15,13 +15,13 @@ use Rattle.terms.specs.Bounds.{places, minQuantity, maxQuantity}
 use Rattle.terms.specs.Orders.{validityNumber}
 use Rattle.terms.specs.declared.orders.{Validity.Validity, Validity.the-variants.AtOpening, Validity.the-variants.AtClose, Validity.the-variants.Day, Validity.the-variants.LaterDay, Auction.Auction, Auction.the-variants.Opening, Auction.the-variants.Closing, Order.Order}
 use Rattle.book.specs.declared.Book.{Book}
-use Rattle.book.specs.Places.{isTaken, marked, unmarked}
+use Rattle.places.specs.Places.{isTaken, marked, unmarked}
 use Rattle.book.specs.Columns.{Raw, rawAt, rawOf, orderFrom, orderAt, emptyRaw, written, stored, cleared}
 use Rattle.book.specs.Resting.{putBack, changedAt, changedTo, changed}
 use Rattle.book.specs.Sound.{SoundOrder, SoundBook}
 use Rattle.book.specs.Changed.{changed-to-later}
-use Rattle.auction.specs.declared.{Trade.Trade}
-use Rattle.auction.specs.Trades.{traded}
+use Rattle.trades.specs.declared.{Trade.Trade}
+use Rattle.trades.specs.Trades.{traded}
 use Rattle.auction.specs.After.{remaining, ends, leaves, restOf}
 
 -- rests with this validity, as the column holds it, are deleted

@@ -13,7 +13,7 @@ use Rattle.lists.specs.Sums.{_∈_, counted, sum-none}
 use Rattle.terms.specs.Bounds.{places, maxNumber}
 use Rattle.terms.specs.declared.orders.{Side.Side, Side.the-variants.Buy, Side.the-variants.Sell, Auction.Auction, Order.Order}
 use Rattle.book.specs.declared.Book.{Book}
-use Rattle.book.specs.Places.{isTaken}
+use Rattle.places.specs.Places.{isTaken}
 use Rattle.book.specs.Columns.{orderAt}
 use Rattle.book.specs.Resting.{resting, changed}
 use Rattle.book.specs.Rests.{resting-elim}
@@ -25,14 +25,14 @@ use Rattle.queue.specs.Rank.{ranked, ranked-elim}
 use Rattle.queue.specs.Ranks.{placeOfRank, along}
 use Rattle.queue.specs.Reach.{resting-distinct}
 use Rattle.queue.specs.Queue.{ranks-known, ranked-by-ranks}
-use Rattle.queue.specs.Fill.{Fill, fill, filledBy, hasNumber, fill-all}
-use Rattle.queue.specs.Shares.{sharesOf, lessened}
-use Rattle.queue.specs.Shared.{shares-fill, fill-orders, sharedAt, lessened-at, lessened-length, shared-at-fill}
+use Rattle.fills.specs.Fill.{Fill, fill, filledBy, hasNumber, fill-all}
+use Rattle.fills.specs.Shares.{sharesOf, lessened}
+use Rattle.fills.specs.Shared.{shares-fill, fill-orders, sharedAt, lessened-at, lessened-length, shared-at-fill}
 use Rattle.price.specs.Interest.{interest}
-use Rattle.auction.specs.Trades.{traded}
-use Rattle.auction.specs.Fills.{fills, tradesOf, trades-filled}
+use Rattle.trades.specs.Trades.{traded}
+use Rattle.trades.specs.Fills.{fills, tradesOf, trades-filled}
 use Rattle.auction.specs.After.{restOf}
-use Rattle.auction.specs.Fronts.{share-pairs}
+use Rattle.trades.specs.Fronts.{share-pairs}
 use Rattle.auction.specs.Settled.{settled, settled-changed}
 use Rattle.auction.specs.Trading.{ranksOn, sharesIn, tradesIn, restsIn}
 

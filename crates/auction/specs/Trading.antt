@@ -11,11 +11,12 @@ use Rattle.terms.specs.declared.orders.{Side.Side, Side.the-variants.Buy, Side.
 use Rattle.book.specs.declared.Book.{Book}
 use Rattle.queue.specs.Ranks.{rankBound, ranksFrom, along}
 use Rattle.queue.specs.Placing.{ranks-length, numbers-comparable}
-use Rattle.queue.specs.Shares.{sumsFrom, sharesOf, lessened}
+use Rattle.fills.specs.Shares.{sumsFrom, sharesOf, lessened}
 use Rattle.price.specs.Search.{sumBelow, offered, searchedIn}
-use Rattle.auction.specs.declared.{Trade.Trade, Outcome.Outcome}
+use Rattle.trades.specs.declared.{Trade.Trade}
+use Rattle.auction.specs.declared.{Outcome.Outcome}
 use Rattle.auction.specs.Decided.{outcomeFrom}
-use Rattle.auction.specs.Fronts.{pairedShares}
+use Rattle.trades.specs.Fronts.{pairedShares}
 
 -- the ranks of those taking part on a side of a book, best first
 abbrev pub ranksOn : Book → Auction → Side → List ℕ

@@ -1,6 +1,6 @@
 // After an auction: what is left of the orders, and which rests are deleted (01 "Outcomes").
 use book::Book;
-use book::WORD_PLACES;
+use places::WORD_PLACES;
 use terms::Auction;
 use terms::Place;
 use terms::Validity;
@@ -24,11 +24,11 @@ pub fn settled(mut b: Book, auction: Auction, rests: &[u32; 512]) -> Book
     let mut place: usize = 0;
     while place < Place::COUNT {
         let word = b.taken[place / WORD_PLACES];
-        if book::bit_of(word, place % WORD_PLACES) == 1 {
+        if places::bit_of(word, place % WORD_PLACES) == 1 {
             let rest = rests[place];
             if (rest == 0) | ends(auction, b.validity[place]) {
                 let taken = b.taken;
-                b.taken = book::unmarked(taken, place);
+                b.taken = places::unmarked(taken, place);
                 b.number[place] = 0;
                 b.member[place] = 0;
                 b.side[place] = 0;

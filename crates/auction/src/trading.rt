@@ -3,11 +3,11 @@
 use crate::Outcome;
 use crate::after::settled;
 use crate::decide::outcome_of;
-use crate::pairing::pair;
 use book::Book;
 use terms::Auction;
 use terms::Limit;
 use terms::Side;
+use trades::pair;
 ghost use mathlib.Core.Path.{_≡_};
 ghost use mathlib.Core.List.{_++_};
 ghost use Prim.Native.Nat.{_*_, _≤_};
@@ -15,7 +15,7 @@ ghost use lib.Dec.{leb};
 ghost use lib.ListN.{length, drop};
 ghost use Rattle.lists.specs.Ranking.{Ranked};
 ghost use Rattle.auction.specs.Settled.{settled as Settled·settled};
-ghost use Rattle.auction.specs.Written.{quadruples};
+ghost use Rattle.trades.specs.Written.{quadruples};
 ghost use Rattle.auction.specs.Trading.{outcomeIn, tradesIn, restsIn};
 
 // The book after an auction, and how many trades there were.
@@ -39,8 +39,8 @@ pub fn outcome_now<'a>(
 {
     let mut buy_room = [0u64; 513];
     let mut sell_room = [0u64; 513];
-    queue::sum_up(buys, lefts, &mut buy_room);
-    queue::sum_up(sells, lefts, &mut sell_room);
+    fills::sum_up(buys, lefts, &mut buy_room);
+    fills::sum_up(sells, lefts, &mut sell_room);
     let buy_sums = &buy_room[..buys.len() + 1];
     let sell_sums = &sell_room[..sells.len() + 1];
     let found = price::searched(reference, limits, buys, buy_sums, sells, sell_sums);
@@ -78,8 +78,8 @@ pub fn count_trades<'a>(
 {
     let mut bought = [0u32; 512];
     let mut sold = [0u32; 512];
-    let bids = queue::share_out(quantity, buys, lefts, &mut bought);
-    let asks = queue::share_out(quantity, sells, lefts, &mut sold);
+    let bids = fills::share_out(quantity, buys, lefts, &mut bought);
+    let asks = fills::share_out(quantity, sells, lefts, &mut sold);
     let mut unwritten = [0u32; 1];
     let count = pair(
         &mut unwritten,
@@ -108,8 +108,8 @@ pub fn traded<'a>(
 {
     let mut bought = [0u32; 512];
     let mut sold = [0u32; 512];
-    let bids = queue::share_out(quantity, buys, &b.left, &mut bought);
-    let asks = queue::share_out(quantity, sells, &b.left, &mut sold);
+    let bids = fills::share_out(quantity, buys, &b.left, &mut bought);
+    let asks = fills::share_out(quantity, sells, &b.left, &mut sold);
     let count = pair(
         list,
         price,
@@ -120,8 +120,8 @@ pub fn traded<'a>(
         &sold[..asks],
     );
     let mut rests = b.left;
-    queue::lessen(&mut rests, buys, &bought[..bids]);
-    queue::lessen(&mut rests, sells, &sold[..asks]);
+    fills::lessen(&mut rests, buys, &bought[..bids]);
+    fills::lessen(&mut rests, sells, &sold[..asks]);
     let book = settled(b, auction, &rests);
     Closed {
         book,

@@ -9,7 +9,7 @@ use Rattle.terms.specs.Bounds.{places}
 use Rattle.terms.specs.Orders.{isLimit}
 use Rattle.terms.specs.declared.orders.{Order.Order}
 use Rattle.book.specs.declared.Book.{Book}
-use Rattle.book.specs.Places.{isTaken}
+use Rattle.places.specs.Places.{isTaken}
 use Rattle.book.specs.Columns.{orderFrom, orderAt, stored, cleared}
 use Rattle.book.specs.Changes.{Sized, SameAt, stored-taken, stored-order, stored-elsewhere, cleared-free, cleared-elsewhere}
 use Rattle.book.specs.Resting.{resting}

@@ -9,7 +9,7 @@ use Rattle.lists.specs.Sums.{_∈_}
 use Rattle.terms.specs.Bounds.{places}
 use Rattle.terms.specs.declared.orders.{Order.Order}
 use Rattle.book.specs.declared.Book.{Book}
-use Rattle.book.specs.Places.{isTaken}
+use Rattle.places.specs.Places.{isTaken}
 use Rattle.book.specs.Columns.{rawAt, rawOf, orderFrom, orderAt, emptyRaw, stored, cleared}
 use Rattle.book.specs.Changes.{Sized, SameAt, stored-taken, stored-raw, stored-order, stored-elsewhere, stored-sized, cleared-free, cleared-raw, cleared-elsewhere, cleared-sized}
 use Rattle.book.specs.Resting.{resting, putBack, changedAt, changedTo, changed}

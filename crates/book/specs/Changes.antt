@@ -12,8 +12,8 @@ use Rattle.terms.specs.Bounds.{places}
 use Rattle.terms.specs.Orders.{sideNumber, validityNumber, limitNumber, limitFrom, isLimit}
 use Rattle.terms.specs.declared.orders.{Side.Side, Side.the-variants.Buy, Side.the-variants.Sell, Validity.Validity, Validity.the-variants.AtOpening, Validity.the-variants.AtClose, Validity.the-variants.Day, Validity.the-variants.LaterDay, Limit.Limit, Limit.the-variants.Unlimited, Limit.the-variants.At, Order.Order}
 use Rattle.book.specs.declared.Book.{Book}
-use Rattle.book.specs.Places.{isTaken, marked, unmarked}
-use Rattle.book.specs.Words.{marked-taken, marked-elsewhere, unmarked-free, unmarked-elsewhere, marked-length, unmarked-length}
+use Rattle.places.specs.Places.{isTaken, marked, unmarked}
+use Rattle.places.specs.Words.{marked-taken, marked-elsewhere, unmarked-free, unmarked-elsewhere, marked-length, unmarked-length}
 use Rattle.book.specs.Columns.{sideFrom, validityFrom, Raw, rawAt, rawOf, orderFrom, orderAt, emptyRaw, written, stored, cleared}
 
 -- eight words, and columns of 512

@@ -8,7 +8,7 @@ use Rattle.terms.specs.Bounds.{places}
 use Rattle.terms.specs.Orders.{sideNumber, validityNumber, limitNumber, limitFrom}
 use Rattle.terms.specs.declared.orders.{Side.Side, Side.the-variants.Buy, Side.the-variants.Sell, Validity.Validity, Validity.the-variants.AtOpening, Validity.the-variants.AtClose, Validity.the-variants.Day, Validity.the-variants.LaterDay, Order.Order}
 use Rattle.book.specs.declared.Book.{Book}
-use Rattle.book.specs.Places.{marked, unmarked}
+use Rattle.places.specs.Places.{marked, unmarked}
 
 -- sides, validities and limits stand under their numbers of 01
 abbrev pub sideFrom : ℕ → Side

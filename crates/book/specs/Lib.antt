@@ -1,6 +1,4 @@
--- The book: which places are taken, and what rests at them.
-pub mod Places
-pub mod Words
+-- The book: what rests at its places.
 pub mod Columns
 pub mod Changes
 pub mod Resting

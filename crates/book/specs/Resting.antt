@@ -9,7 +9,7 @@ use lib.ListN.{getD}
 use Rattle.terms.specs.Bounds.{places}
 use Rattle.terms.specs.declared.orders.{Order.Order}
 use Rattle.book.specs.declared.Book.{Book}
-use Rattle.book.specs.Places.{isTaken}
+use Rattle.places.specs.Places.{isTaken}
 use Rattle.book.specs.Columns.{orderAt, stored, cleared}
 
 -- the order at a place, where it is taken

@@ -13,7 +13,7 @@ use Rattle.lists.specs.Choice.{any, any-elim, any-intro}
 use Rattle.terms.specs.Bounds.{places}
 use Rattle.terms.specs.declared.orders.{Order.Order}
 use Rattle.book.specs.declared.Book.{Book}
-use Rattle.book.specs.Places.{isTaken}
+use Rattle.places.specs.Places.{isTaken}
 use Rattle.book.specs.Columns.{orderAt}
 use Rattle.book.specs.Resting.{restingAt, restingTo, resting, firstOr, findFrom, placeOf}
 

@@ -13,8 +13,8 @@ use Rattle.terms.specs.Kinds.{isPrice, isMultiple, isMember, isQuantity}
 use Rattle.terms.specs.Orders.{isLimit, isLegal}
 use Rattle.terms.specs.declared.orders.{Limit.Limit, Limit.the-variants.Unlimited, Limit.the-variants.At, Order.Order}
 use Rattle.book.specs.declared.Book.{Book}
-use Rattle.book.specs.Places.{isTaken}
-use Rattle.book.specs.Words.{zeros-free}
+use Rattle.places.specs.Places.{isTaken}
+use Rattle.places.specs.Words.{zeros-free}
 use Rattle.book.specs.Columns.{rawAt, rawOf, orderFrom, orderAt, emptyRaw, emptyBook, stored, cleared}
 use Rattle.book.specs.Changes.{Sized, SameAt, stored-taken, stored-raw, stored-order, stored-elsewhere, stored-sized, cleared-free, cleared-raw, cleared-elsewhere, cleared-sized}
 

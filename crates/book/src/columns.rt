@@ -1,9 +1,9 @@
 // Columns: how an order stands at a place, and storing, clearing and finding one.
 use crate::Book;
-use crate::places::WORD_PLACES;
-use crate::places::bit_of;
-use crate::places::marked;
-use crate::places::unmarked;
+use places::WORD_PLACES;
+use places::bit_of;
+use places::marked;
+use places::unmarked;
 use terms::Limit;
 use terms::Order;
 use terms::Place;

@@ -1,14 +1,8 @@
 // The book: 512 places shared by both sides, as columns of numbers, and eight words that say which places are taken
 // (01 "Numbers and their bounds"). A free place holds the empty value 0 in every column.
 mod columns;
-mod places;
 
 pub use columns::place_of;
-pub use places::WORD_PLACES;
-pub use places::bit_of;
-pub use places::count_taken;
-pub use places::lowest_free;
-pub use places::unmarked;
 
 pub struct Book {
     pub taken: [u64; 8],

@@ -15,7 +15,7 @@ use Rattle.terms.specs.Made.{auction-made}
 use Rattle.terms.specs.Parameters.{areParameters}
 use Rattle.terms.specs.declared.orders.{Side.Side, SideMade.SideMade, Auction.Auction, AuctionMade.AuctionMade, Entry.Entry}
 use Rattle.terms.specs.declared.parameters.{Parameters.Parameters}
-use Rattle.book.specs.Places.{countTaken}
+use Rattle.places.specs.Places.{countTaken}
 use Rattle.book.specs.Resting.{resting, isOf}
 use Rattle.session.specs.declared.{Session.Session, Started.Started, Entered.Entered, Deleted.Deleted, Foreseen.Foreseen}
 use Rattle.refusals.specs.Phases.{hasStarted, allowsOrder, allowsAuction}

@@ -17,7 +17,7 @@ use Rattle.terms.specs.Orders.{auctionNumber}
 use Rattle.terms.specs.Bounds.{places, maxTrades, numbersPerTrade, tradeListLength}
 use Rattle.terms.specs.declared.orders.{Side.Side, Side.the-variants.Buy, Side.the-variants.Sell, Auction.Auction, Auction.the-variants.Opening, Auction.the-variants.Closing, Validity.Validity, Validity.the-variants.AtOpening, Validity.the-variants.AtClose, Validity.the-variants.Day, Validity.the-variants.LaterDay, Order.Order}
 use Rattle.book.specs.declared.Book.{Book}
-use Rattle.book.specs.Places.{isTaken}
+use Rattle.places.specs.Places.{isTaken}
 use Rattle.book.specs.Columns.{orderAt}
 use Rattle.book.specs.Resting.{resting, changed}
 use Rattle.book.specs.Rests.{resting-intro}
@@ -27,14 +27,15 @@ use Rattle.queue.specs.Part.{takesPart, takingPart, takingPart-elim, takingPart
 use Rattle.queue.specs.Distinct.{Distinct, distinct-one}
 use Rattle.queue.specs.Rank.{ahead, onSide}
 use Rattle.price.specs.Interest.{accepts, interest, executable}
-use Rattle.auction.specs.declared.{Trade.Trade, Outcome.Outcome, Outcome.the-variants.Traded, Outcome.the-variants.NoTrade, Outcome.the-variants.NonOpening, Outcome.the-variants.Delayed}
-use Rattle.auction.specs.Trades.{party, traded, volume, TradeList}
-use Rattle.auction.specs.Pairing.{amount, paired}
-use Rattle.auction.specs.Fills.{fills, tradesOf, trades-none}
+use Rattle.trades.specs.declared.{Trade.Trade}
+use Rattle.auction.specs.declared.{Outcome.Outcome, Outcome.the-variants.Traded, Outcome.the-variants.NoTrade, Outcome.the-variants.NonOpening, Outcome.the-variants.Delayed}
+use Rattle.trades.specs.Trades.{party, traded, volume, TradeList}
+use Rattle.trades.specs.Pairing.{amount, paired}
+use Rattle.trades.specs.Fills.{fills, tradesOf, trades-none}
 use Rattle.auction.specs.Outcome.{trades, outcomeNumber, priceAnswered, quantityAnswered, takesPlace}
 use Rattle.auction.specs.After.{remaining, ends, leaves, restOf}
 use Rattle.auction.specs.Settled.{rest-keeps}
-use Rattle.auction.specs.Written.{quadruples, quadruples-length, tradesRead, trades-back}
+use Rattle.trades.specs.Written.{quadruples, quadruples-length, tradesRead, trades-back}
 use Rattle.session.specs.declared.{Session.Session}
 use Rattle.session.specs.Sound.{Sound}
 use Rattle.session.specs.Auctions.{AuctionLeaves, part, outcomeOf, tradesNow, sessionAfter, auctionDone, auctioned}

@@ -10,8 +10,8 @@ use Rattle.lists.specs.Sums.{_∈_, counted}
 use Rattle.terms.specs.Bounds.{places}
 use Rattle.terms.specs.Made.{Asked, entry-asks}
 use Rattle.terms.specs.declared.orders.{Order.Order, Entry.Entry}
-use Rattle.book.specs.Places.{isTaken, lowestFree, countTaken, total}
-use Rattle.book.specs.Words.{lowest-free-clear, lowest-free-least, count-is-taken}
+use Rattle.places.specs.Places.{isTaken, lowestFree, countTaken, total}
+use Rattle.places.specs.Words.{lowest-free-clear, lowest-free-least, count-is-taken}
 use Rattle.book.specs.Columns.{orderFrom, orderAt}
 use Rattle.book.specs.Changes.{stored-order, stored-elsewhere}
 use Rattle.book.specs.Resting.{resting, placeOf, isOf}

@@ -4,7 +4,7 @@ use mathlib.Core.Path.{_≡_}
 use mathlib.Core.List.{List}
 use Rattle.terms.specs.Orders.{sideOf}
 use Rattle.terms.specs.declared.orders.{Side.Side, SideMade.SideMade}
-use Rattle.queue.specs.Front.{LongestFront, front-longest}
+use Rattle.fills.specs.Front.{LongestFront, front-longest}
 use Rattle.refusals.specs.Checks.{firstHit}
 use Rattle.session.specs.Queues.{frontChecks, listOf, filledFront, front-side}
 

@@ -24,7 +24,7 @@ use Rattle.price.specs.Chain.{auctionPrice}
 use Rattle.auction.specs.declared.{Outcome.Outcome, Outcome.the-variants.Traded, Outcome.the-variants.NoTrade, Outcome.the-variants.NonOpening, Outcome.the-variants.Delayed}
 use Rattle.auction.specs.Outcome.{outcome, prevented, delays, priced, trades, outcomeNumber, priceAnswered, takesPlace}
 use Rattle.auction.specs.NonOpening.{Fillable, non-opening-exactly}
-use Rattle.auction.specs.Written.{written}
+use Rattle.trades.specs.Written.{written}
 use Rattle.refusals.specs.declared.phases.{Phase.the-variants.PreOpening}
 use Rattle.session.specs.declared.{Session.Session, AuctionAnswer.AuctionAnswer}
 use Rattle.refusals.specs.Phases.{hasStarted, phaseAfter}

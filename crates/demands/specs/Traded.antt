@@ -21,10 +21,11 @@ use Rattle.queue.specs.Rank.{ahead, onSide}
 use Rattle.price.specs.Interest.{interest, executable}
 use Rattle.price.specs.Candidates.{mostExecutable}
 use Rattle.price.specs.Chain.{price-best, price-none, price-most, no-price-most}
-use Rattle.auction.specs.declared.{Trade.Trade, Outcome.Outcome, Outcome.the-variants.Traded, Outcome.the-variants.NoTrade, Outcome.the-variants.NonOpening, Outcome.the-variants.Delayed}
-use Rattle.auction.specs.Trades.{traded, volume, TradeList, volume-le-executable}
-use Rattle.auction.specs.Pairing.{amount}
-use Rattle.auction.specs.Fills.{fills, tradesOf, trades-none, fills-amount, trades-volume, trades-possible, trades-in-order, trades-positive, traded-side, trades-count}
+use Rattle.trades.specs.declared.{Trade.Trade}
+use Rattle.auction.specs.declared.{Outcome.Outcome, Outcome.the-variants.Traded, Outcome.the-variants.NoTrade, Outcome.the-variants.NonOpening, Outcome.the-variants.Delayed}
+use Rattle.trades.specs.Trades.{traded, volume, TradeList, volume-le-executable}
+use Rattle.trades.specs.Pairing.{amount}
+use Rattle.trades.specs.Fills.{fills, tradesOf, trades-none, fills-amount, trades-volume, trades-possible, trades-in-order, trades-positive, traded-side, trades-count}
 use Rattle.auction.specs.Outcome.{outcome, trades, priceAnswered, quantityAnswered, countAnswered, takesPlace, outcome-traded, outcome-no-trade, outcome-prevented, closing-takes-place}
 use Rattle.auction.specs.After.{remaining}
 use Rattle.auction.specs.Left.{nothing-left}

@@ -3,7 +3,7 @@ use Prim.Native.Nat.{ℕ, _+_, _*_, _≤_}
 use mathlib.Core.List.{List, [], _∷_, _++_}
 use native.Mathlib.Omega.{arith}
 use lib.ListN.{length, take, length-append, length-take}
-use Rattle.auction.specs.declared.{Trade.Trade}
+use Rattle.trades.specs.declared.{Trade.Trade}
 use Rattle.lines.specs.declared.{Answer.Answer}
 use Rattle.lines.specs.Text.{decimal, space, newline, numeral, texts, startWord, orderWord, deleteWord, auctionWord, tradeWord, faultWord, endWord}
 use Rattle.lines.specs.Decimal.{decimal-length}

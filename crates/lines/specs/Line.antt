@@ -1,7 +1,7 @@
 -- Lines: record place from 1, word, answer number; what an order and an auction add; one line per trade; the fault and the end.
 use Prim.Native.Nat.{ℕ}
 use mathlib.Core.List.{List, [], _∷_, _++_}
-use Rattle.auction.specs.declared.{Trade.Trade}
+use Rattle.trades.specs.declared.{Trade.Trade}
 use Rattle.lines.specs.declared.{Answer.Answer}
 use Rattle.lines.specs.Text.{decimal, space, newline, numeral, texts, startWord, orderWord, deleteWord, auctionWord, tradeWord, faultWord, endWord}
 

@@ -6,8 +6,8 @@ use native.Mathlib.Numerals.{add-one}
 use native.Mathlib.Omega.{arith}
 use lib.ListN.{length, getD}
 use Rattle.terms.specs.Bounds.{numbersPerTrade}
-use Rattle.auction.specs.declared.{Trade.Trade}
-use Rattle.auction.specs.Written.{tradesRead}
+use Rattle.trades.specs.declared.{Trade.Trade}
+use Rattle.trades.specs.Written.{tradesRead}
 use Rattle.lines.specs.Line.{tradeLine}
 use Rattle.lines.specs.Lengths.{tradeRoom, trades-room}
 use Rattle.lines.specs.Put.{Wrote}

@@ -12,10 +12,10 @@ use Rattle.lists.specs.Sums.{_∈_, counted, counted-and, sum, sum-same}
 use Rattle.terms.specs.declared.orders.{Side.Side, Order.Order}
 use Rattle.queue.specs.Sides.{allows}
 use Rattle.queue.specs.Distinct.{Distinct}
-use Rattle.queue.specs.Fill.{none-pass, FrontPart, ranked-front}
+use Rattle.fills.specs.Fill.{none-pass, FrontPart, ranked-front}
 use Rattle.queue.specs.Rank.{onSide, ranked, ranked-sum, ranked-in-order}
 use Rattle.queue.specs.Ranks.{rankBound}
-use Rattle.queue.specs.Shares.{sumsFrom}
+use Rattle.fills.specs.Shares.{sumsFrom}
 use Rattle.price.specs.Interest.{interest, allows-ahead}
 use Rattle.price.specs.Search.{countBelow, sumBelow, offered}
 use Rattle.price.specs.Below.{count-le}

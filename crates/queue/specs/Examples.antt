@@ -1,4 +1,4 @@
--- Worked examples: who takes part, rank, filling and the filled front.
+-- Worked examples: who takes part, and rank.
 use Prim.Native.Nat.{ℕ}
 use mathlib.Core.Path.{_≡_, refl}
 use mathlib.Core.List.{List, [], _∷_, map}
@@ -6,8 +6,6 @@ use Rattle.terms.specs.Samples.{order, buy, sell, buyAny}
 use Rattle.terms.specs.declared.orders.{Side.the-variants.Buy, Side.the-variants.Sell, Validity.the-variants.AtOpening, Validity.the-variants.AtClose, Validity.the-variants.Day, Validity.the-variants.LaterDay, Auction.the-variants.Opening, Auction.the-variants.Closing, Limit.the-variants.At, Order.Order}
 use Rattle.queue.specs.Part.{takingPart}
 use Rattle.queue.specs.Rank.{ranked}
-use Rattle.queue.specs.Fill.{fill}
-use Rattle.queue.specs.Front.{front}
 
 abbrev numbersOf : List Order → List ℕ
 numbersOf os = map (λ o. o .number) os
@@ -26,7 +24,7 @@ unfolding takingPart
 at-the-closing = refl
 
 -- orders 9 and 8 stand at places that were freed and reused: number, not place, decides at one limit
-abbrev mixed : List Order
+abbrev pub mixed : List Order
 mixed = buy 9 10 200 ∷ buy 2 20 200 ∷ sell 3 30 150 ∷ buyAny 8 40 ∷ sell 4 50 100 ∷ buy 5 60 300 ∷ []
 
 buys-ranked : numbersOf (ranked Buy mixed) ≡ 8 ∷ 5 ∷ 2 ∷ 9 ∷ []
@@ -36,13 +34,3 @@ buys-ranked = refl
 sells-ranked : numbersOf (ranked Sell mixed) ≡ 4 ∷ 3 ∷ []
 unfolding ranked
 sells-ranked = refl
-
--- 110 fills orders 8 and 5 and 10 of order 2; nothing is left for order 9
-filled : map (λ x. x .quantity) (fill 110 (ranked Buy mixed)) ≡ 40 ∷ 60 ∷ 10 ∷ []
-unfolding ranked
-filled = refl
-
--- the longest front part whose sum is at most the total; a total that is just reached counts
-fronts : front 60 (10 ∷ 50 ∷ 0 ∷ 1 ∷ []) ≡ 10 ∷ 50 ∷ 0 ∷ []
-unfolding front
-fronts = refl

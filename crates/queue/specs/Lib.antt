@@ -1,4 +1,4 @@
--- The queue: who takes part, rank, and filling from the front.
+-- The queue: who takes part, and rank.
 pub mod Part
 pub mod Sides
 pub mod Distinct
@@ -9,9 +9,5 @@ pub mod Placing
 pub mod Keys
 pub mod Queue
 pub mod Reach
-pub mod Fill
-pub mod Shares
-pub mod Shared
-pub mod Front
 pub mod Over
 pub mod Examples

@@ -16,7 +16,7 @@ use Rattle.terms.specs.Kinds.{isPrice, isMultiple}
 use Rattle.terms.specs.Orders.{sideNumber, validityNumber, limitFrom, isLegal}
 use Rattle.terms.specs.declared.orders.{Side.Side, Side.the-variants.Buy, Side.the-variants.Sell, Auction.Auction, Auction.the-variants.Opening, Auction.the-variants.Closing, Validity.Validity, Validity.the-variants.AtOpening, Validity.the-variants.AtClose, Validity.the-variants.Day, Validity.the-variants.LaterDay, Order.Order}
 use Rattle.book.specs.declared.Book.{Book}
-use Rattle.book.specs.Places.{isTaken}
+use Rattle.places.specs.Places.{isTaken}
 use Rattle.book.specs.Columns.{sideFrom, validityFrom, Raw, orderAt}
 use Rattle.book.specs.Resting.{restingAt, restingTo, resting}
 use Rattle.book.specs.Sound.{SoundBook}

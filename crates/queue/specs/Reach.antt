@@ -10,7 +10,7 @@ use Rattle.lists.specs.Sums.{_∈_}
 use Rattle.terms.specs.Bounds.{places, minQuantity, maxQuantity}
 use Rattle.terms.specs.declared.orders.{Order.Order}
 use Rattle.book.specs.declared.Book.{Book}
-use Rattle.book.specs.Places.{isTaken}
+use Rattle.places.specs.Places.{isTaken}
 use Rattle.book.specs.Columns.{orderAt}
 use Rattle.book.specs.Resting.{restingTo, resting}
 use Rattle.book.specs.Rests.{resting-elim}

@@ -1,5 +1,5 @@
 // The ranked queue as order numbers (01 "Outcomes", ranked queue).
-use crate::shares::place_of_rank;
+use crate::ranks::place_of_rank;
 ghost use mathlib.Core.Path.{_≡_};
 ghost use mathlib.Core.List.{_++_};
 ghost use Prim.Native.Nat.{_≤_};

@@ -18,14 +18,15 @@ use Rattle.book.specs.Resting.{resting}
 use Rattle.book.specs.Rests.{resting-length}
 use Rattle.queue.specs.Part.{takingPart-length}
 use Rattle.price.specs.Interest.{interest, executable}
-use Rattle.auction.specs.declared.{Trade.Trade, Outcome.Outcome, Outcome.the-variants.Traded, Outcome.the-variants.NoTrade, Outcome.the-variants.NonOpening, Outcome.the-variants.Delayed}
-use Rattle.auction.specs.Fills.{tradesOf, trades-none, trades-count}
+use Rattle.trades.specs.declared.{Trade.Trade}
+use Rattle.auction.specs.declared.{Outcome.Outcome, Outcome.the-variants.Traded, Outcome.the-variants.NoTrade, Outcome.the-variants.NonOpening, Outcome.the-variants.Delayed}
+use Rattle.trades.specs.Fills.{tradesOf, trades-none, trades-count}
 use Rattle.auction.specs.Outcome.{outcome, trades, outcome-traded}
 use Rattle.auction.specs.Settled.{settled}
 use Rattle.auction.specs.Trading.{ranksOn, outcomeIn, tradesIn, restsIn}
 use Rattle.auction.specs.OutcomeIn.{outcome-in}
 use Rattle.auction.specs.TradesIn.{trades-in, rests-in}
-use Rattle.auction.specs.Written.{quadruples}
+use Rattle.trades.specs.Written.{quadruples}
 use Rattle.refusals.specs.declared.phases.{Phase.Phase}
 use Rattle.session.specs.declared.{Session.Session, AuctionAnswer.AuctionAnswer}
 use Rattle.refusals.specs.Phases.{hasStarted, phaseAfter}

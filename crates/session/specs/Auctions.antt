@@ -9,10 +9,11 @@ use Rattle.terms.specs.Orders.{isAuction, auctionOf}
 use Rattle.terms.specs.declared.orders.{Auction.Auction, AuctionMade.AuctionMade, Order.Order}
 use Rattle.book.specs.Resting.{resting, changed}
 use Rattle.queue.specs.Part.{takingPart}
-use Rattle.auction.specs.declared.{Trade.Trade, Outcome.Outcome, Outcome.the-variants.Traded, Outcome.the-variants.NoTrade, Outcome.the-variants.NonOpening, Outcome.the-variants.Delayed}
+use Rattle.trades.specs.declared.{Trade.Trade}
+use Rattle.auction.specs.declared.{Outcome.Outcome, Outcome.the-variants.Traded, Outcome.the-variants.NoTrade, Outcome.the-variants.NonOpening, Outcome.the-variants.Delayed}
 use Rattle.auction.specs.Outcome.{outcome, trades, outcomeNumber, priceAnswered, quantityAnswered, countAnswered}
 use Rattle.auction.specs.After.{restOf}
-use Rattle.auction.specs.Written.{written}
+use Rattle.trades.specs.Written.{written}
 use Rattle.refusals.specs.declared.phases.{Phase.Phase}
 use Rattle.session.specs.declared.{Session.Session, AuctionAnswer.AuctionAnswer, Auctioned.Auctioned, Foreseen.Foreseen}
 use Rattle.refusals.specs.Phases.{hasStarted, allowsAuction, phaseAfter}

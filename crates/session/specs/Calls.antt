@@ -10,7 +10,7 @@ use Rattle.terms.specs.Orders.{orderOf}
 use Rattle.terms.specs.Made.{entry-asks}
 use Rattle.terms.specs.declared.orders.{Order.Order, OrderMade.OrderMade, Entry.Entry}
 use Rattle.book.specs.declared.Book.{Book}
-use Rattle.book.specs.Places.{lowestFree, countTaken}
+use Rattle.places.specs.Places.{lowestFree, countTaken}
 use Rattle.book.specs.Columns.{stored, cleared}
 use Rattle.book.specs.Resting.{placeOf, isOf, placeIn, place-in}
 use Rattle.book.specs.Rests.{any-resting}

@@ -13,7 +13,7 @@ use Rattle.terms.specs.Parameters.{areParameters}
 use Rattle.terms.specs.declared.orders.{OrderMade.OrderMade, Entry.Entry}
 use Rattle.terms.specs.declared.parameters.{Parameters.Parameters}
 use Rattle.book.specs.declared.Book.{Book}
-use Rattle.book.specs.Places.{lowestFree, countTaken}
+use Rattle.places.specs.Places.{lowestFree, countTaken}
 use Rattle.book.specs.Columns.{emptyBook, stored, cleared}
 use Rattle.book.specs.Resting.{resting, placeOf, isOf}
 use Rattle.refusals.specs.declared.phases.{Phase.Phase, Phase.the-variants.Fresh, Phase.the-variants.PreOpening}

@@ -13,7 +13,7 @@ use Rattle.terms.specs.Orders.{isSide, isAuction, sideOf, auctionOf}
 use Rattle.terms.specs.Made.{side-made}
 use Rattle.terms.specs.declared.orders.{Side.Side, Side.the-variants.Buy, Side.the-variants.Sell, SideMade.SideMade, Auction.Auction, AuctionMade.AuctionMade}
 use Rattle.queue.specs.Rank.{ranked}
-use Rattle.queue.specs.Front.{front, front-longest}
+use Rattle.fills.specs.Front.{front, front-longest}
 use Rattle.refusals.specs.declared.phases.{Phase.Phase}
 use Rattle.session.specs.declared.{Session.Session, Queued.Queued}
 use Rattle.refusals.specs.Phases.{hasStarted}

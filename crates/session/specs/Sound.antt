@@ -14,8 +14,8 @@ use Rattle.terms.specs.Made.{fields-hold, Asked, entry-asks}
 use Rattle.terms.specs.Parameters.{areParameters}
 use Rattle.terms.specs.declared.orders.{Limit.Limit, Limit.the-variants.Unlimited, Limit.the-variants.At, Entry.Entry}
 use Rattle.terms.specs.declared.parameters.{Parameters.Parameters}
-use Rattle.book.specs.Places.{lowestFree, countTaken}
-use Rattle.book.specs.Words.{lowest-free-room}
+use Rattle.places.specs.Places.{lowestFree, countTaken}
+use Rattle.places.specs.Words.{lowest-free-room}
 use Rattle.book.specs.Resting.{resting, placeOf, isOf}
 use Rattle.book.specs.Rests.{any-resting}
 use Rattle.book.specs.Sound.{SoundOrder, SoundBook, empty-sound, stored-sound, cleared-sound}

@@ -14,7 +14,8 @@ use Rattle.queue.specs.Reach.{resting-sound}
 use Rattle.book.specs.Changed.{changed-book-sound}
 use Rattle.book.specs.Resting.{resting}
 use Rattle.price.specs.Legal.{price-legal}
-use Rattle.auction.specs.declared.{Trade.Trade, Outcome.Outcome, Outcome.the-variants.Traded, Outcome.the-variants.NoTrade, Outcome.the-variants.NonOpening, Outcome.the-variants.Delayed}
+use Rattle.trades.specs.declared.{Trade.Trade}
+use Rattle.auction.specs.declared.{Outcome.Outcome, Outcome.the-variants.Traded, Outcome.the-variants.NoTrade, Outcome.the-variants.NonOpening, Outcome.the-variants.Delayed}
 use Rattle.auction.specs.Outcome.{trades, outcome-traded}
 use Rattle.auction.specs.After.{restOf}
 use Rattle.auction.specs.Settled.{rest-keeps}

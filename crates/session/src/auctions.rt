@@ -14,7 +14,7 @@ ghost use lib.ListN.{length, take, drop};
 ghost use Rattle.terms.specs.Bounds.{tradeListLength};
 ghost use Rattle.terms.specs.declared.orders.{Side.the-variants.Buy, Side.the-variants.Sell};
 ghost use Rattle.auction.specs.Trading.{ranksOn};
-ghost use Rattle.auction.specs.Written.{quadruples};
+ghost use Rattle.trades.specs.Written.{quadruples};
 ghost use Rattle.refusals.specs.Phases.{hasStarted};
 ghost use Rattle.session.specs.Auctions.{part, outcomeOf, answerOf, delayGiven, noAnswer, auctionLeaves, auctionDone};
 ghost use Rattle.session.specs.AuctionCalls.{answerWith, tradesBy, closedBy};

@@ -143,7 +143,7 @@ impl Session {
             parameters,
             self.reference,
             self.given,
-            book::count_taken(taken),
+            places::count_taken(taken),
             e,
         );
         if answer != 0 {
@@ -163,7 +163,7 @@ impl Session {
             };
         };
         let old = self.book;
-        let place = book::lowest_free(taken);
+        let place = places::lowest_free(taken);
         let book = old.stored(place, o);
         let session = Session {
             phase,
@@ -328,9 +328,9 @@ pub fn filled_front<'a>(
         return &buys[..0];
     }
     if side == Side::BUY {
-        let k = queue::front_length(buys, total);
+        let k = fills::front_length(buys, total);
         return &buys[..k];
     }
-    let k = queue::front_length(sells, total);
+    let k = fills::front_length(sells, total);
     &sells[..k]
 }

@@ -7,9 +7,9 @@ use lib.ListN.{length, drop, length-replicate}
 use Rattle.terms.specs.Bounds.{numbersPerTrade, maxTrades, tradeListLength}
 use Rattle.terms.specs.Orders.{auctionOf}
 use Rattle.terms.specs.declared.orders.{AuctionMade.AuctionMade}
-use Rattle.auction.specs.declared.{Trade.Trade}
+use Rattle.trades.specs.declared.{Trade.Trade}
 use Rattle.auction.specs.Outcome.{priceAnswered}
-use Rattle.auction.specs.Written.{tradesRead, trades-back}
+use Rattle.trades.specs.Written.{tradesRead, trades-back}
 use Rattle.session.specs.declared.{Session.Session, Auctioned.Auctioned}
 use Rattle.refusals.specs.Checks.{firstHit}
 use Rattle.session.specs.Auctions.{AuctionLeaves, outcomeOf, tradesNow, auctionChecks, auctionLeaves, auctionDone, auctionAnswer, auctioned}

@@ -6,7 +6,7 @@ use lib.ListN.{replicate}
 use Rattle.terms.specs.Bounds.{tradeListLength}
 use Rattle.terms.specs.Orders.{auctionOf}
 use Rattle.terms.specs.declared.orders.{Auction.Auction, AuctionMade.AuctionMade}
-use Rattle.auction.specs.declared.{Trade.Trade}
+use Rattle.trades.specs.declared.{Trade.Trade}
 use Rattle.session.specs.declared.{Session.Session, Started.Started, Entered.Entered, Deleted.Deleted, Auctioned.Auctioned}
 use Rattle.session.specs.Entry.{freshSession, started, entered, deleted}
 use Rattle.session.specs.Auctions.{auctioned, tradesNow}

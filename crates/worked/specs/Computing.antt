@@ -1,17 +1,17 @@
 -- Computing: every definition that stays shut by itself, so that a worked example can say `unfolding computing` and hold by `refl`.
 use Rattle.lists.specs.Sums.{apart}
 use Rattle.terms.specs.Orders.{orderOf}
-use Rattle.book.specs.Places.{bit, least, total, marked, unmarked}
+use Rattle.places.specs.Places.{bit, least, total, marked, unmarked}
 use Rattle.book.specs.Columns.{stored, cleared}
 use Rattle.book.specs.Resting.{restingTo, findFrom, changedTo}
 use Rattle.queue.specs.Part.{takingPart}
 use Rattle.queue.specs.Rank.{ranked}
-use Rattle.queue.specs.Front.{front}
+use Rattle.fills.specs.Front.{front}
 use Rattle.price.specs.Interest.{interest}
 use Rattle.price.specs.Candidates.{mostExecutable}
 use Rattle.price.specs.Chain.{auctionPrice}
-use Rattle.auction.specs.Trades.{traded}
-use Rattle.auction.specs.Fills.{fills, tradesOf}
+use Rattle.trades.specs.Trades.{traded}
+use Rattle.trades.specs.Fills.{fills, tradesOf}
 use Rattle.auction.specs.Outcome.{nonOpening, outcome}
 use Rattle.auction.specs.After.{restOf}
 use Rattle.refusals.specs.Checks.{firstHit}

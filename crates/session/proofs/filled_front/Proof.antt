@@ -1,6 +1,6 @@
 use mathlib.Core.Path.{sym}
 use lib.Seq.{length-take-le}
-use Rattle.queue.specs.Front.{front-longest}
+use Rattle.fills.specs.Front.{front-longest}
 use Rattle.session.specs.Queues.{front-turned-down, front-bought, front-sold}
 use native.Mathlib.Omega.{arith}
 use borrow.Author.Needs.{needs}

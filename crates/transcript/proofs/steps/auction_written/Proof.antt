@@ -2,7 +2,7 @@
 use mathlib.Core.Path.{refl}
 use native.Mathlib.Omega.{arith}
 use borrow.Author.Needs.{needs}
-use Rattle.auction.specs.Written.{tradesRead}
+use Rattle.trades.specs.Written.{tradesRead}
 use Rattle.lines.specs.Lengths.{line-length}
 use Rattle.lines.specs.declared.{Answer.Answer}
 use Rattle.transcript.specs.Transcript.{auctionStep}

@@ -1,0 +1,80 @@
+// Sums and shares along a ranked queue: what the first orders have open in all, and what each gets of a total.
+use queue::place_of_rank;
+ghost use mathlib.Core.Path.{_≡_};
+ghost use Prim.Native.Nat.{_+_, _-_, _<_, _≤_, min};
+ghost use lib.ListN.{length, getD, take};
+ghost use Rattle.queue.specs.Ranks.{placeOfRank, along};
+ghost use Rattle.fills.specs.Shares.{sumsFrom, sharesOf, lessened};
+
+// What the order of a rank has open.
+fn left_at(lefts: &[u32; 512], r: u64) -> u32
+    ensures { λ q. ⌜ q ≡ getD (now (lefts .entry)) (placeOfRank r) 0 ⌝ }
+{
+    let place = place_of_rank(r);
+    lefts[place]
+}
+
+// What an order gets of a total: all that it has open, or what there is.
+fn share_of(total: u64, left: u32) -> u32
+    ensures { λ r. ⌜ r ≡ min total left ⌝ }
+{
+    if total <= left as u64 {
+        total as u32
+    } else {
+        left
+    }
+}
+
+// Never below nothing.
+fn less(left: u32, share: u32) -> u32
+    ensures { λ r. ⌜ r ≡ left - share ⌝ }
+{
+    if share <= left { left - share } else { 0 }
+}
+
+// What the first 0, 1, 2 .. orders of a queue have open in all, from the front of a list.
+pub fn sum_up<'a>(ranks: &'a [u64], lefts: &'a [u32; 512], sums: &mut [u64])
+    requires { ⌜ (length (now ranks) ≤ 512) × (length (now ranks) < length (now sums)) ⌝ }
+    ensures { λ r. ⌜ take (length (now (ranks .entry)) + 1) (now (sums .exit)) ≡ sumsFrom 0 (along (now (lefts .entry)) (now (ranks .entry))) ⌝ }
+{
+    let mut total: u64 = 0;
+    let mut i: usize = 0;
+    sums[0] = 0;
+    while i < ranks.len() {
+        total += left_at(lefts, ranks[i]) as u64;
+        i += 1;
+        sums[i] = total;
+    }
+}
+
+// What the orders of a queue get of a total, the first of it first, from the front of a list; how many get anything.
+pub fn share_out<'a>(total: u64, ranks: &'a [u64], lefts: &'a [u32; 512], list: &mut [u32]) -> usize
+    requires { ⌜ length (now ranks) ≤ length (now list) ⌝ }
+    ensures { λ r. ⌜ (r ≤ length (now (ranks .entry))) × (take r (now (list .exit)) ≡ sharesOf total (along (now (lefts .entry)) (now (ranks .entry)))) ⌝ }
+{
+    let mut rest = total;
+    let mut i: usize = 0;
+    while i < ranks.len() {
+        if rest == 0 {
+            return i;
+        }
+        let share = share_of(rest, left_at(lefts, ranks[i]));
+        list[i] = share;
+        rest -= share as u64;
+        i += 1;
+    }
+    i
+}
+
+// The open quantities less the shares.
+pub fn lessen<'a>(lefts: &mut [u32], ranks: &'a [u64], shares: &'a [u32])
+    requires { ⌜ (512 ≤ length (now lefts)) × (length (now shares) ≤ length (now ranks)) ⌝ }
+    ensures { λ r. ⌜ now (lefts .exit) ≡ lessened (now (ranks .entry)) (now (shares .entry)) (now (lefts .entry)) ⌝ }
+{
+    let mut i: usize = 0;
+    while i < shares.len() {
+        let place = place_of_rank(ranks[i]);
+        lefts[place] = less(lefts[place], shares[i]);
+        i += 1;
+    }
+}

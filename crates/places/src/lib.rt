@@ -1,0 +1,9 @@
+// Places: which of the book's 512 are taken, as the bits of eight words (01 "Numbers and their bounds").
+mod words;
+
+pub use words::WORD_PLACES;
+pub use words::bit_of;
+pub use words::count_taken;
+pub use words::lowest_free;
+pub use words::marked;
+pub use words::unmarked;

@@ -1,0 +1,99 @@
+// Words: a place is taken where its bit is 1. Trailing zeros pick the lowest free place, ones count the taken ones.
+use terms::Place;
+ghost use mathlib.Core.Path.{_≡_};
+ghost use Prim.Native.Nat.{_<_, _≤_};
+ghost use Rattle.places.specs.Places.{bit, total, lowestFree, countTaken, withBit, withoutBit, marked as Places·marked, unmarked as Places·unmarked};
+ghost use Rattle.places.specs.Words.{LowClear};
+
+// Eight words of 64 places each.
+const WORDS: usize = 8;
+
+pub const WORD_PLACES: usize = 64;
+
+// The bit k of a word.
+pub fn bit_of(word: u64, k: usize) -> u64
+    requires { ⌜ k < 64 ⌝ }
+    ensures { λ r. ⌜ r ≡ bit k word ⌝ }
+{
+    (word >> k) % 2
+}
+
+// The lowest bit of a word that is not set, or 64.
+fn low_clear(word: u64) -> usize
+    ensures { λ r. ⌜ LowClear word r ⌝ }
+{
+    u64::trailing_zeros(!word) as usize
+}
+
+fn set_bits(word: u64) -> usize
+    ensures { λ r. ⌜ (r ≡ total (λ k. bit k word) 64) × (r ≤ 64) ⌝ }
+{
+    u64::count_ones(word) as usize
+}
+
+// The lowest free place, or 512.
+pub fn lowest_free(taken: [u64; 8]) -> usize
+    ensures { λ r. ⌜ r ≡ lowestFree taken ⌝ }
+{
+    let mut j: usize = 0;
+    while j < WORDS {
+        let z = low_clear(taken[j]);
+        if z < WORD_PLACES {
+            return j * WORD_PLACES + z;
+        }
+        j += 1;
+    }
+    Place::COUNT
+}
+
+pub fn count_taken(taken: [u64; 8]) -> usize
+    ensures { λ r. ⌜ r ≡ countTaken taken ⌝ }
+{
+    let mut n: usize = 0;
+    let mut j: usize = 0;
+    while j < WORDS {
+        n += set_bits(taken[j]);
+        j += 1;
+    }
+    n
+}
+
+fn with_bit(word: u64, k: usize) -> u64
+    requires { ⌜ k < 64 ⌝ }
+    ensures { λ r. ⌜ r ≡ withBit k word ⌝ }
+{
+    if bit_of(word, k) == 1 {
+        word
+    } else {
+        word + (1 << k)
+    }
+}
+
+fn without_bit(word: u64, k: usize) -> u64
+    requires { ⌜ k < 64 ⌝ }
+    ensures { λ r. ⌜ r ≡ withoutBit k word ⌝ }
+{
+    if bit_of(word, k) == 1 {
+        word - (1 << k)
+    } else {
+        word
+    }
+}
+
+pub fn marked(mut taken: [u64; 8], place: usize) -> [u64; 8]
+    requires { ⌜ place < 512 ⌝ }
+    ensures { λ r. ⌜ r ≡ Places·marked taken place ⌝ }
+{
+    let j = place / WORD_PLACES;
+    taken[j] = with_bit(taken[j], place % WORD_PLACES);
+    taken
+}
+
+pub fn unmarked(mut taken: [u64; 8], place: usize) -> [u64; 8]
+    requires { ⌜ place < 512 ⌝ }
+    ensures { λ r. ⌜ r ≡ Places·unmarked taken place ⌝ }
+{
+    let j = place / WORD_PLACES;
+    taken[j] = without_bit(taken[j], place % WORD_PLACES);
+    taken
+}
