@@ -18,7 +18,7 @@ fn ends(auction: Auction, validity: u8) -> bool
 }
 
 // The book with what rests of each order: gone where that is nothing or its validity ends, and else at its own place.
-pub fn settled(mut b: Book, auction: Auction, rests: &[u32; 512]) -> Book
+pub fn settled(mut b: Book, auction: Auction, rests: &[u32; Place::COUNT]) -> Book
     ensures { λ r. ⌜ r ≡ Settled·settled auction (now (rests .entry)) b ⌝ }
 {
     let mut place: usize = 0;

@@ -6,6 +6,7 @@ use crate::decide::outcome_of;
 use book::Book;
 use terms::Auction;
 use terms::Limit;
+use terms::Place;
 use terms::Side;
 use trades::pair;
 ghost use mathlib.Core.Path.{_≡_};
@@ -17,6 +18,7 @@ ghost use Rattle.lists.specs.Ranking.{Ranked};
 ghost use Rattle.auction.specs.Settled.{settled as Settled·settled};
 ghost use Rattle.trades.specs.Written.{quadruples};
 ghost use Rattle.auction.specs.Trading.{outcomeIn, tradesIn, restsIn};
+ghost use Rattle.terms.specs.Bounds.{places};
 
 // The book after an auction, and how many trades there were.
 pub struct Closed {
@@ -29,16 +31,16 @@ pub fn outcome_now<'a>(
     delayed: bool,
     threshold: u16,
     reference: u32,
-    limits: &'a [u32; 512],
-    lefts: &'a [u32; 512],
+    limits: &'a [u32; Place::COUNT],
+    lefts: &'a [u32; Place::COUNT],
     buys: &'a [u64],
     sells: &'a [u64],
 ) -> Outcome
-    requires { ⌜ Ranked leb (now buys) × (length (now buys) ≤ 512) × Ranked leb (now sells) × (length (now sells) ≤ 512) ⌝ }
+    requires { ⌜ Ranked leb (now buys) × (length (now buys) ≤ places) × Ranked leb (now sells) × (length (now sells) ≤ places) ⌝ }
     ensures { λ r. ⌜ r ≡ outcomeIn auction delayed threshold reference (now (limits .entry)) (now (lefts .entry)) (now (buys .entry)) (now (sells .entry)) ⌝ }
 {
-    let mut buy_room = [0u64; 513];
-    let mut sell_room = [0u64; 513];
+    let mut buy_room = [0u64; Place::COUNT + 1];
+    let mut sell_room = [0u64; Place::COUNT + 1];
     fills::sum_up(buys, lefts, &mut buy_room);
     fills::sum_up(sells, lefts, &mut sell_room);
     let buy_sums = &buy_room[..buys.len() + 1];
@@ -68,16 +70,16 @@ pub fn outcome_now<'a>(
 // How many trades a quantity makes.
 pub fn count_trades<'a>(
     quantity: u64,
-    numbers: &'a [u32; 512],
-    lefts: &'a [u32; 512],
+    numbers: &'a [u32; Place::COUNT],
+    lefts: &'a [u32; Place::COUNT],
     buys: &'a [u64],
     sells: &'a [u64],
 ) -> u32
-    requires { ⌜ (length (now buys) ≤ 512) × (length (now sells) ≤ 512) ⌝ }
+    requires { ⌜ (length (now buys) ≤ places) × (length (now sells) ≤ places) ⌝ }
     ensures { λ r. ⌜ r ≡ length (tradesIn quantity (now (numbers .entry)) (now (lefts .entry)) (now (buys .entry)) (now (sells .entry))) ⌝ }
 {
-    let mut bought = [0u32; 512];
-    let mut sold = [0u32; 512];
+    let mut bought = [0u32; Place::COUNT];
+    let mut sold = [0u32; Place::COUNT];
     let bids = fills::share_out(quantity, buys, lefts, &mut bought);
     let asks = fills::share_out(quantity, sells, lefts, &mut sold);
     let mut unwritten = [0u32; 1];
@@ -103,11 +105,11 @@ pub fn traded<'a>(
     sells: &'a [u64],
     list: &mut [u32],
 ) -> Closed
-    requires { ⌜ (length (now buys) ≤ 512) × (length (now sells) ≤ 512) ⌝ }
+    requires { ⌜ (length (now buys) ≤ places) × (length (now sells) ≤ places) ⌝ }
     ensures { λ r. ⌜ (r .count ≡ length (tradesIn quantity (b .number) (b .left) (now (buys .entry)) (now (sells .entry)))) × (r .book ≡ Settled·settled auction (restsIn quantity (b .left) (now (buys .entry)) (now (sells .entry))) b) × (4 * r .count ≤ length (now (list .entry)) → now (list .exit) ≡ quadruples price (tradesIn quantity (b .number) (b .left) (now (buys .entry)) (now (sells .entry))) ++ drop (4 * r .count) (now (list .entry))) ⌝ }
 {
-    let mut bought = [0u32; 512];
-    let mut sold = [0u32; 512];
+    let mut bought = [0u32; Place::COUNT];
+    let mut sold = [0u32; Place::COUNT];
     let bids = fills::share_out(quantity, buys, &b.left, &mut bought);
     let asks = fills::share_out(quantity, sells, &b.left, &mut sold);
     let count = pair(

@@ -11,9 +11,11 @@ use terms::Entry;
 use terms::Limit;
 use terms::Side;
 use terms::Validity;
+use trades::Trade;
 ghost use Prim.Native.Nat.{_≤_};
 ghost use lib.ListN.{length};
 ghost use Rattle.session.specs.Sound.{Sound};
+ghost use Rattle.terms.specs.Bounds.{tradeListLength};
 
 const REFERENCE: u32 = 100_000;
 
@@ -168,7 +170,7 @@ fn wide(x: u32) -> u64
 }
 
 fn sum(numbers: &[u32]) -> u64
-    requires { ⌜ length (now numbers) ≤ 2044 ⌝ }
+    requires { ⌜ length (now numbers) ≤ tradeListLength ⌝ }
 {
     let mut total: u64 = 0;
     let mut i: usize = 0;
@@ -189,7 +191,7 @@ fn main() {
     let mut bytes = [0u8; 3];
     libc::read(STDIN_FILENO, &mut bytes);
     let session = filled(size_of(bytes[0]), bytes[1]);
-    let mut list = [0u32; 2044];
+    let mut list = [0u32; Trade::LIST];
     let last = one_more(session, bytes[2], &mut list);
     let r = last.result;
     put_number(r.outcome as u64);

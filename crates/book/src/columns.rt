@@ -1,6 +1,7 @@
 // Columns: how an order stands at a place, and storing, clearing and finding one.
 use crate::Book;
 use places::WORD_PLACES;
+use places::WORDS;
 use places::bit_of;
 use places::marked;
 use places::unmarked;
@@ -14,6 +15,7 @@ ghost use Prim.Native.Nat.{_<_, _≤_, _+_};
 ghost use Rattle.book.specs.Columns.{sideFrom, validityFrom, orderAt, emptyBook, stored, cleared};
 ghost use Rattle.book.specs.Groups.{hasNumber};
 ghost use Rattle.book.specs.Resting.{placeIn};
+ghost use Rattle.terms.specs.Bounds.{places};
 
 // Sides and validities stand under their numbers of 01.
 fn side_from(x: u8) -> Side
@@ -42,18 +44,18 @@ impl Book {
         ensures { λ r. ⌜ r ≡ emptyBook ⌝ }
     {
         Book {
-            taken: [0u64; 8],
-            number: [0u32; 512],
-            member: [0u16; 512],
-            side: [0u8; 512],
-            validity: [0u8; 512],
-            left: [0u32; 512],
-            limit: [0u32; 512],
+            taken: [0u64; WORDS],
+            number: [0u32; Place::COUNT],
+            member: [0u16; Place::COUNT],
+            side: [0u8; Place::COUNT],
+            validity: [0u8; Place::COUNT],
+            left: [0u32; Place::COUNT],
+            limit: [0u32; Place::COUNT],
         }
     }
 
     pub fn stored(mut self, place: usize, o: Order) -> Book
-        requires { ⌜ place < 512 ⌝ }
+        requires { ⌜ place < places ⌝ }
         ensures { λ r. ⌜ r ≡ stored self place o ⌝ }
     {
         let side = o.side;
@@ -72,7 +74,7 @@ impl Book {
 
     // The place goes back to the empty values.
     pub fn cleared(mut self, place: usize) -> Book
-        requires { ⌜ place < 512 ⌝ }
+        requires { ⌜ place < places ⌝ }
         ensures { λ r. ⌜ r ≡ cleared self place ⌝ }
     {
         let taken = self.taken;
@@ -87,7 +89,7 @@ impl Book {
     }
 
     pub fn order_at(self, place: usize) -> Order
-        requires { ⌜ place < 512 ⌝ }
+        requires { ⌜ place < places ⌝ }
         ensures { λ r. ⌜ r ≡ orderAt self place ⌝ }
     {
         let side = side_from(self.side[place]);
@@ -108,8 +110,8 @@ impl Book {
 const GROUP: usize = 8;
 
 // Whether one of eight places from one on has this number: told together, so that the machine compares them at once.
-fn has_number(numbers: &[u32; 512], from: usize, number: u32) -> bool
-    requires { ⌜ from + 8 ≤ 512 ⌝ }
+fn has_number(numbers: &[u32; Place::COUNT], from: usize, number: u32) -> bool
+    requires { ⌜ from + 8 ≤ places ⌝ }
     ensures { λ r. ⌜ r ≡ hasNumber (now (numbers .entry)) number from 8 ⌝ }
 {
     (numbers[from] == number)
@@ -124,14 +126,14 @@ fn has_number(numbers: &[u32; 512], from: usize, number: u32) -> bool
 
 // The least of eight places from one on whose resting order has this number and this member, or the place behind them.
 fn place_in_group<'a>(
-    taken: &'a [u64; 8],
-    numbers: &'a [u32; 512],
-    members: &'a [u16; 512],
+    taken: &'a [u64; WORDS],
+    numbers: &'a [u32; Place::COUNT],
+    members: &'a [u16; Place::COUNT],
     number: u32,
     member: u16,
     from: usize,
 ) -> usize
-    requires { ⌜ from + 8 ≤ 512 ⌝ }
+    requires { ⌜ from + 8 ≤ places ⌝ }
     ensures { λ r. ⌜ r ≡ placeIn (now (taken .entry)) (now (numbers .entry)) (now (members .entry)) number member from 8 ⌝ }
 {
     let behind = from + GROUP;
@@ -149,13 +151,13 @@ fn place_in_group<'a>(
 
 // The least place whose resting order has this number and this member, or 512.
 pub fn place_of<'a>(
-    taken: &'a [u64; 8],
-    numbers: &'a [u32; 512],
-    members: &'a [u16; 512],
+    taken: &'a [u64; WORDS],
+    numbers: &'a [u32; Place::COUNT],
+    members: &'a [u16; Place::COUNT],
     number: u32,
     member: u16,
 ) -> usize
-    ensures { λ r. ⌜ r ≡ placeIn (now (taken .entry)) (now (numbers .entry)) (now (members .entry)) number member 0 512 ⌝ }
+    ensures { λ r. ⌜ r ≡ placeIn (now (taken .entry)) (now (numbers .entry)) (now (members .entry)) number member 0 places ⌝ }
 {
     let mut place: usize = 0;
     while place < Place::COUNT {

@@ -3,13 +3,15 @@
 mod columns;
 
 pub use columns::place_of;
+use places::WORDS;
+use terms::Place;
 
 pub struct Book {
-    pub taken: [u64; 8],
-    pub number: [u32; 512],
-    pub member: [u16; 512],
-    pub side: [u8; 512],
-    pub validity: [u8; 512],
-    pub left: [u32; 512],
-    pub limit: [u32; 512],
+    pub taken: [u64; WORDS],
+    pub number: [u32; Place::COUNT],
+    pub member: [u16; Place::COUNT],
+    pub side: [u8; Place::COUNT],
+    pub validity: [u8; Place::COUNT],
+    pub left: [u32; Place::COUNT],
+    pub limit: [u32; Place::COUNT],
 }

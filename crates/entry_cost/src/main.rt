@@ -5,6 +5,7 @@ use libc::STDOUT_FILENO;
 use session::Session;
 use terms::Entry;
 use terms::Limit;
+use terms::Place;
 use terms::Side;
 use terms::Validity;
 ghost use Prim.Native.Nat.{_≤_};
@@ -81,10 +82,10 @@ fn wide(quantity: u32) -> u64
     quantity as u64
 }
 
-fn open_quantity(left: &[u32; 512]) -> u64 {
+fn open_quantity(left: &[u32; Place::COUNT]) -> u64 {
     let mut sum: u64 = 0;
     let mut place: usize = 0;
-    while place < 512 {
+    while place < Place::COUNT {
         sum += wide(left[place]);
         place += 1;
     }

@@ -1,13 +1,15 @@
 // Sums and shares along a ranked queue: what the first orders have open in all, and what each gets of a total.
 use queue::place_of_rank;
+use terms::Place;
 ghost use mathlib.Core.Path.{_≡_};
 ghost use Prim.Native.Nat.{_+_, _-_, _<_, _≤_, min};
 ghost use lib.ListN.{length, getD, take};
 ghost use Rattle.queue.specs.Ranks.{placeOfRank, along};
 ghost use Rattle.fills.specs.Shares.{sumsFrom, sharesOf, lessened};
+ghost use Rattle.terms.specs.Bounds.{places};
 
 // What the order of a rank has open.
-fn left_at(lefts: &[u32; 512], r: u64) -> u32
+fn left_at(lefts: &[u32; Place::COUNT], r: u64) -> u32
     ensures { λ q. ⌜ q ≡ getD (now (lefts .entry)) (placeOfRank r) 0 ⌝ }
 {
     let place = place_of_rank(r);
@@ -33,8 +35,8 @@ fn less(left: u32, share: u32) -> u32
 }
 
 // What the first 0, 1, 2 .. orders of a queue have open in all, from the front of a list.
-pub fn sum_up<'a>(ranks: &'a [u64], lefts: &'a [u32; 512], sums: &mut [u64])
-    requires { ⌜ (length (now ranks) ≤ 512) × (length (now ranks) < length (now sums)) ⌝ }
+pub fn sum_up<'a>(ranks: &'a [u64], lefts: &'a [u32; Place::COUNT], sums: &mut [u64])
+    requires { ⌜ (length (now ranks) ≤ places) × (length (now ranks) < length (now sums)) ⌝ }
     ensures { λ r. ⌜ take (length (now (ranks .entry)) + 1) (now (sums .exit)) ≡ sumsFrom 0 (along (now (lefts .entry)) (now (ranks .entry))) ⌝ }
 {
     let mut total: u64 = 0;
@@ -48,7 +50,12 @@ pub fn sum_up<'a>(ranks: &'a [u64], lefts: &'a [u32; 512], sums: &mut [u64])
 }
 
 // What the orders of a queue get of a total, the first of it first, from the front of a list; how many get anything.
-pub fn share_out<'a>(total: u64, ranks: &'a [u64], lefts: &'a [u32; 512], list: &mut [u32]) -> usize
+pub fn share_out<'a>(
+    total: u64,
+    ranks: &'a [u64],
+    lefts: &'a [u32; Place::COUNT],
+    list: &mut [u32],
+) -> usize
     requires { ⌜ length (now ranks) ≤ length (now list) ⌝ }
     ensures { λ r. ⌜ (r ≤ length (now (ranks .entry))) × (take r (now (list .exit)) ≡ sharesOf total (along (now (lefts .entry)) (now (ranks .entry)))) ⌝ }
 {
@@ -68,7 +75,7 @@ pub fn share_out<'a>(total: u64, ranks: &'a [u64], lefts: &'a [u32; 512], list: 
 
 // The open quantities less the shares.
 pub fn lessen<'a>(lefts: &mut [u32], ranks: &'a [u64], shares: &'a [u32])
-    requires { ⌜ (512 ≤ length (now lefts)) × (length (now shares) ≤ length (now ranks)) ⌝ }
+    requires { ⌜ (places ≤ length (now lefts)) × (length (now shares) ≤ length (now ranks)) ⌝ }
     ensures { λ r. ⌜ now (lefts .exit) ≡ lessened (now (ranks .entry)) (now (shares .entry)) (now (lefts .entry)) ⌝ }
 {
     let mut i: usize = 0;

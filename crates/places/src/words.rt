@@ -4,9 +4,10 @@ ghost use mathlib.Core.Path.{_≡_};
 ghost use Prim.Native.Nat.{_<_, _≤_};
 ghost use Rattle.places.specs.Places.{bit, total, lowestFree, countTaken, withBit, withoutBit, marked as Places·marked, unmarked as Places·unmarked};
 ghost use Rattle.places.specs.Words.{LowClear};
+ghost use Rattle.terms.specs.Bounds.{places};
 
 // Eight words of 64 places each.
-const WORDS: usize = 8;
+pub const WORDS: usize = 8;
 
 pub const WORD_PLACES: usize = 64;
 
@@ -32,7 +33,7 @@ fn set_bits(word: u64) -> usize
 }
 
 // The lowest free place, or 512.
-pub fn lowest_free(taken: [u64; 8]) -> usize
+pub fn lowest_free(taken: [u64; WORDS]) -> usize
     ensures { λ r. ⌜ r ≡ lowestFree taken ⌝ }
 {
     let mut j: usize = 0;
@@ -46,7 +47,7 @@ pub fn lowest_free(taken: [u64; 8]) -> usize
     Place::COUNT
 }
 
-pub fn count_taken(taken: [u64; 8]) -> usize
+pub fn count_taken(taken: [u64; WORDS]) -> usize
     ensures { λ r. ⌜ r ≡ countTaken taken ⌝ }
 {
     let mut n: usize = 0;
@@ -80,8 +81,8 @@ fn without_bit(word: u64, k: usize) -> u64
     }
 }
 
-pub fn marked(mut taken: [u64; 8], place: usize) -> [u64; 8]
-    requires { ⌜ place < 512 ⌝ }
+pub fn marked(mut taken: [u64; WORDS], place: usize) -> [u64; WORDS]
+    requires { ⌜ place < places ⌝ }
     ensures { λ r. ⌜ r ≡ Places·marked taken place ⌝ }
 {
     let j = place / WORD_PLACES;
@@ -89,8 +90,8 @@ pub fn marked(mut taken: [u64; 8], place: usize) -> [u64; 8]
     taken
 }
 
-pub fn unmarked(mut taken: [u64; 8], place: usize) -> [u64; 8]
-    requires { ⌜ place < 512 ⌝ }
+pub fn unmarked(mut taken: [u64; WORDS], place: usize) -> [u64; WORDS]
+    requires { ⌜ place < places ⌝ }
     ensures { λ r. ⌜ r ≡ Places·unmarked taken place ⌝ }
 {
     let j = place / WORD_PLACES;

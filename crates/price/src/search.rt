@@ -6,6 +6,7 @@ use crate::weigh::executable;
 use crate::weigh::first;
 use crate::weigh::weigh;
 use terms::Limit;
+use terms::Place;
 use terms::Side;
 ghost use mathlib.Core.Path.{_≡_};
 ghost use Prim.Native.Nat.{_<_};
@@ -61,7 +62,7 @@ fn weigh_limits<'a>(
     start: Weighed,
     reference: u32,
     ranks: &'a [u64],
-    limits: &'a [u32; 512],
+    limits: &'a [u32; Place::COUNT],
     buys: &'a [u64],
     buy_sums: &'a [u64],
     sells: &'a [u64],
@@ -84,7 +85,7 @@ fn weigh_limits<'a>(
     w
 }
 
-// The chain: at the highest of those that are left demand may exceed supply, so that it does at all; likewise at the lowest.
+// Steps 3 and 4: demand exceeds supply at all that are left where it does at the highest, supply demand where it does at the lowest.
 fn chosen<'a>(
     w: Weighed,
     buys: &'a [u64],
@@ -115,7 +116,7 @@ fn chosen<'a>(
 // The candidates are the reference price and the limits of both queues, given by their ranks with the sums of their open quantities.
 pub fn searched<'a>(
     reference: u32,
-    limits: &'a [u32; 512],
+    limits: &'a [u32; Place::COUNT],
     buys: &'a [u64],
     buy_sums: &'a [u64],
     sells: &'a [u64],

@@ -21,9 +21,6 @@ ghost use Rattle.terms.specs.Kinds.{isPlace};
 ghost use Rattle.refusals.specs.Checks.{firstHit};
 ghost use Rattle.refusals.specs.Rows.{orderRows, deleteRows, auctionRefusal, auctionRows, theoreticalRows, rankedRows, frontRows};
 
-// Numbers that an auction asks of the lent list.
-const TRADE_LIST: usize = Trade::NUMBERS * Trade::MOST;
-
 // A check in front of those that come later.
 fn first_of(hit: bool, number: u8, later: u8) -> u8
     ensures { λ r. ⌜ r ≡ cond hit number later ⌝ }
@@ -80,7 +77,7 @@ fn auction_refusal_or(phase: Phase, which: u8, later: u8) -> u8
 pub fn auction_refusal(phase: Phase, which: u8, size: usize) -> u8
     ensures { λ r. ⌜ r ≡ firstHit (auctionRows phase which size) ⌝ }
 {
-    auction_refusal_or(phase, which, first_of(size < TRADE_LIST, 12, 0))
+    auction_refusal_or(phase, which, first_of(size < Trade::LIST, 12, 0))
 }
 
 pub fn theoretical_refusal(phase: Phase, which: u8) -> u8

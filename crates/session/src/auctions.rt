@@ -5,13 +5,14 @@ use crate::Session;
 use auction::Outcome;
 use refusals::phase_after;
 use terms::Auction;
+use terms::Place;
 use terms::Side;
 ghost use mathlib.Core.Path.{_≡_};
 ghost use mathlib.Core.List.{_++_};
 ghost use Prim.Native.Nat.{_*_, _≤_};
 ghost use lib.Dec.{T};
 ghost use lib.ListN.{length, take, drop};
-ghost use Rattle.terms.specs.Bounds.{tradeListLength};
+ghost use Rattle.terms.specs.Bounds.{tradeListLength, places};
 ghost use Rattle.terms.specs.declared.orders.{Side.the-variants.Buy, Side.the-variants.Sell};
 ghost use Rattle.auction.specs.Trading.{ranksOn};
 ghost use Rattle.trades.specs.Written.{quadruples};
@@ -79,8 +80,8 @@ pub fn answer_with(outcome: Outcome, count: u32) -> AuctionAnswer
 impl Session {
     // The outcome at this moment; the ranks of both sides go to the two lists.
     pub(crate) fn outlook(self, auction: Auction, buys: &mut [u64], sells: &mut [u64]) -> Outlook
-        requires { ⌜ Sound self × T (hasStarted (self .phase)) × (512 ≤ length (now buys)) × (512 ≤ length (now sells)) ⌝ }
-        ensures { λ r. ⌜ (r .outcome ≡ outcomeOf self auction) × (r .bids ≤ 512) × (take (r .bids) (now (buys .exit)) ≡ ranksOn (self .book) auction Buy) × (r .asks ≤ 512) × (take (r .asks) (now (sells .exit)) ≡ ranksOn (self .book) auction Sell) ⌝ }
+        requires { ⌜ Sound self × T (hasStarted (self .phase)) × (places ≤ length (now buys)) × (places ≤ length (now sells)) ⌝ }
+        ensures { λ r. ⌜ (r .outcome ≡ outcomeOf self auction) × (r .bids ≤ places) × (take (r .bids) (now (buys .exit)) ≡ ranksOn (self .book) auction Buy) × (r .asks ≤ places) × (take (r .asks) (now (sells .exit)) ≡ ranksOn (self .book) auction Sell) ⌝ }
     {
         let bids = queue::ranked(
             buys,
@@ -207,8 +208,8 @@ impl Session {
         requires { ⌜ Sound self × T (hasStarted (self .phase)) ⌝ }
         ensures { λ r. ⌜ r ≡ answerOf (outcomeOf self auction) (part self auction) ⌝ }
     {
-        let mut buys = [0u64; 512];
-        let mut sells = [0u64; 512];
+        let mut buys = [0u64; Place::COUNT];
+        let mut sells = [0u64; Place::COUNT];
         let view = self.outlook(auction, &mut buys, &mut sells);
         let outcome = view.outcome;
         let bids = view.bids;

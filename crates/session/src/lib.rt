@@ -11,6 +11,7 @@ use terms::Order;
 use terms::OrderMade;
 use terms::Parameters;
 use terms::ParametersMade;
+use terms::Place;
 use terms::Side;
 use terms::SideMade;
 ghost use mathlib.Core.Path.{_≡_};
@@ -236,8 +237,8 @@ impl Session {
                 session: self,
             };
         };
-        let mut buys = [0u64; 512];
-        let mut sells = [0u64; 512];
+        let mut buys = [0u64; Place::COUNT];
+        let mut sells = [0u64; Place::COUNT];
         let view = self.outlook(auction, &mut buys, &mut sells);
         let outcome = view.outcome;
         let bids = view.bids;
@@ -294,7 +295,7 @@ impl Session {
                 count: 0,
             };
         };
-        let mut ranks = [0u64; 512];
+        let mut ranks = [0u64; Place::COUNT];
         let count = queue::ranked(
             &mut ranks,
             on,

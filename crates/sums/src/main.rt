@@ -6,8 +6,10 @@ use session::Session;
 use terms::Auction;
 use terms::Entry;
 use terms::Limit;
+use terms::Place;
 use terms::Side;
 use terms::Validity;
+use trades::Trade;
 ghost use Rattle.session.specs.Sound.{Sound};
 
 const REFERENCE: u32 = 100_000;
@@ -95,7 +97,7 @@ fn opened(session: Session) -> Session
     requires { ⌜ Sound session ⌝ }
     ensures { λ r. ⌜ Sound r ⌝ }
 {
-    let mut list = [0u32; 2044];
+    let mut list = [0u32; Trade::LIST];
     held(session, Auction::OPENING, &mut list)
 }
 
@@ -167,7 +169,7 @@ fn delays() {
 fn put_resting(session: Session, side: u8)
     requires { ⌜ Sound session ⌝ }
 {
-    let mut list = [0u32; 512];
+    let mut list = [0u32; Place::COUNT];
     let r = session.ranked(side, Auction::CLOSING, &mut list);
     put_number(r.count as u64);
 }
@@ -179,7 +181,7 @@ fn at_close() {
     put(b"opening");
     let day = opened(session);
     put(b"closing");
-    let mut list = [0u32; 2044];
+    let mut list = [0u32; Trade::LIST];
     let closed = held(day, Auction::CLOSING, &mut list);
     put(b"resting");
     put_resting(closed, Side::BUY);
@@ -201,7 +203,7 @@ fn worked() {
     let both = bought(one, 50, 100_400);
     let three = bought(both, 50, 100_200);
     let session = sold(three, 80, 100_200);
-    let mut list = [0u32; 2044];
+    let mut list = [0u32; Trade::LIST];
     put(b"auction");
     held(session, Auction::OPENING, &mut list);
     put_trade(list[0], list[1], list[2]);

@@ -17,4 +17,7 @@ impl Trade {
 
     // Numbers of the lent list for each: buy number, sell number, quantity, price.
     pub const NUMBERS: usize = 4;
+
+    // .. and so of the list.
+    pub const LIST: usize = Trade::NUMBERS * Trade::MOST;
 }

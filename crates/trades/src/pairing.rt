@@ -1,6 +1,7 @@
 // The trades: the two queues' shares paired from the front, each trade the smaller of the two (01 "Outcomes").
 ghost use mathlib.Core.Bool.{_&&_};
 use crate::Trade;
+use terms::Place;
 ghost use mathlib.Core.Path.{_≡_};
 ghost use mathlib.Core.List.{_∷_, [], _++_};
 ghost use Prim.Native.Nat.{_+_, _*_, _<_, _≤_, min};
@@ -60,7 +61,7 @@ fn write_trade(list: &mut [u32], k: usize, buy: u32, sell: u32, quantity: u32, p
 }
 
 // The number of a queue's order.
-fn number_at<'a>(numbers: &'a [u32; 512], ranks: &'a [u64], i: usize) -> u32
+fn number_at<'a>(numbers: &'a [u32; Place::COUNT], ranks: &'a [u64], i: usize) -> u32
     requires { ⌜ i < length (now ranks) ⌝ }
     ensures { λ r. ⌜ r ≡ getD (along (now (numbers .entry)) (now (ranks .entry))) i 0 ⌝ }
 {
@@ -79,7 +80,7 @@ fn going(b: usize, bought: usize, s: usize, sold: usize) -> bool
 pub fn pair<'a>(
     list: &mut [u32],
     price: u32,
-    numbers: &'a [u32; 512],
+    numbers: &'a [u32; Place::COUNT],
     buys: &'a [u64],
     bought: &'a [u32],
     sells: &'a [u64],

@@ -103,7 +103,7 @@ pub fn told(session: Session, answered: u64, bytes: &[u8], ended: bool, out: &mu
     requires { ⌜ Sound session × (answered + length (now bytes) < 2 ^ 64) ⌝ }
     ensures { λ r. ⌜ tellingLeaves r (now (out .exit)) ≡ Told·told session answered (now (bytes .entry)) ended (now (out .entry)) ⌝ }
 {
-    let mut list = [0u32; 2044];
+    let mut list = [0u32; Trade::LIST];
     let r = records_told(session, answered, bytes, ended, &mut list, out);
     let stop = r.stop;
     let later = r.session;
