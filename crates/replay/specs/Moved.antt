@@ -5,7 +5,7 @@ use mathlib.Core.List.{List, [], _∷_, _++_, append-assoc}
 use native.Mathlib.Omega.{arith}
 use native.Mathlib.Numerals.{add-one}
 use lib.ListN.{length, getD, set, take, drop, length-drop}
-use lib.Seq.{length-take-le, take-suc, take-add, take-at, drop-at, drop-cons, set-at, getD-drop}
+use lib.Seq.{length-take-le, take-suc, take-at, drop-at, drop-cons, set-at, getD-drop}
 
 -- the first i of those from a place on are moved
 abbrev pub movedFrom : ℕ → List ℕ → ℕ → List ℕ
@@ -35,13 +35,6 @@ module _ (bytes : List ℕ) (from i : ℕ) (h : from + i < length bytes) where
       ∙ ap (λ (l : List ℕ). l ++ drop (suc i) bytes) (sym (take-suc (drop from bytes) i 0 (omega (arith, length-drop from bytes))))
       ∙ ap (movedFrom from bytes) (sym (add-one i))
 
-pub moved-all : (bytes : List ℕ) (from to : ℕ) → from ≤ to → to ≤ length bytes → take (to - from) (movedFrom from bytes (to - from)) ≡ drop from (take to bytes)
+pub moved-all : (bytes : List ℕ) (from to : ℕ) → from ≤ to → to ≤ length bytes → take (to - from) (movedFrom from bytes (to - from)) ≡ take (to - from) (drop from bytes)
 moved-all bytes from to h k =
     take-at (take (to - from) (drop from bytes)) (drop (to - from) bytes) (to - from) (length-take-le (to - from) (drop from bytes) (omega (arith, length-drop from bytes)))
-    ∙ sym
-    (ap (λ (n : ℕ). drop from (take n bytes)) whole
-    ∙ ap (drop from) (take-add from (to - from) bytes)
-    ∙ drop-at (take from bytes) (take (to - from) (drop from bytes)) from (length-take-le from bytes (omega arith)))
-  where
-    whole : to ≡ from + (to - from)
-    whole = omega arith

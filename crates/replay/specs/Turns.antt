@@ -1,24 +1,70 @@
--- What holds between two turns: the bytes held lie in the buffer, and the session is sound.
-use Prim.Native.Nat.{ℕ, _+_, _-_, _≤_}
-use mathlib.Core.Bool.{Bool}
-use mathlib.Core.Path.{_≡_, sym, subst}
-use mathlib.Core.List.{List}
+-- What holds between two turns, and what a turn does: the step of `fed`, of which A7 is proved.
+use Prim.Native.Nat.{ℕ, suc, _+_, _-_, _≤_}
+use mathlib.Core.Bool.{Bool, true, false}
+use mathlib.Core.Logic.{_⊎_}
+use mathlib.Core.Path.{_≡_, refl, sym, subst, ap, _∙_}
+use mathlib.Core.List.{List, _++_}
 use native.Mathlib.Omega.{arith}
+use lib.Dec.{eqb}
 use lib.ListN.{length, take, drop, length-drop}
-use lib.Seq.{length-take-le}
+use lib.Seq.{length-take-le, drop-at, take-add, take-append-add, take-append-le, drop-drop}
 use Rattle.session.specs.declared.{Session.Session}
 use Rattle.session.specs.Sound.{Sound}
-use Rattle.transcript.specs.declared.{Telling.Telling}
+use Rattle.transcript.specs.declared.{Stop.Stop, Telling.Telling}
 use Rattle.transcript.specs.Told.{TellingLeaves, tellingLeaves, told}
 use Rattle.transcript.specs.Tells.{Returned, told-returned}
+use Rattle.transcript.specs.Fed.{isEnd, goFeed, fed}
 use Rattle.replay.specs.declared.{Held.Held, Run.Run}
 
+-- the bytes held lie in a buffer of this size
 abbrev pub Within : ℕ → Held → Type 0
 Within size held = (held .from ≤ held .to) × (held .to ≤ size)
+
+-- .. and are these
+abbrev pub heldIn : Held → List ℕ → List ℕ
+heldIn held input = take (held .to - held .from) (drop (held .from) input)
+
+abbrev pub waitsFor : Stop → Bool
+waitsFor Stop.Full = false
+waitsFor Stop.Waits = true
+waitsFor Stop.Fault = false
+waitsFor Stop.End = false
+
+-- what was held, and a read behind it; the input has ended where the read brought nothing
+pub record ReadBehind (before after : List ℕ) (ended : Bool) : Type 0 where
+  pub read : List ℕ
+  pub behind : after ≡ before ++ read
+  pub ends : ended ≡ eqb (length read) 0
+
+-- the bytes for the next telling: one read more where the last one waits for it, and else the same
+abbrev Fetching : Bool → List ℕ → Bool → List ℕ → Bool → Type 0
+Fetching true before ended after later = ReadBehind before after later
+Fetching false before ended after later = (after ≡ before) × (later ≡ ended)
+
+abbrev pub Fetched : Stop → List ℕ → Bool → List ℕ → Bool → Type 0
+Fetched stop before ended after later = Fetching (waitsFor stop) before ended after later
+
+pub fetched-read : (stop : Stop) (before after : List ℕ) (ended later : Bool) → waitsFor stop ≡ true → ReadBehind before after later → Fetched stop before ended after later
+fetched-read stop before after ended later e read = rw e read
+
+pub fetched-none : (stop : Stop) (before : List ℕ) (ended : Bool) → waitsFor stop ≡ false → Fetched stop before ended before ended
+fetched-none stop before ended e = rw e (refl, refl)
 
 pub record Going (size : ℕ) (run : Run) : Type 0 where
   pub held-within : Within size (run .held)
   pub sound : Sound (run .session)
+
+-- A turn: the bytes fetched are told, and the next turn has those behind what was told.
+pub record Turned (run : Run) (input out : List ℕ) (next : Run) (later-input later-out : List ℕ) : Type 0 where
+  pub bytes : List ℕ
+  pub fetched : Fetched (run .stop) (heldIn (run .held) input) (run .held .ended) bytes (next .held .ended)
+  pub telling : Telling
+  pub tells : tellingLeaves telling later-out ≡ told (run .session) (run .answered) bytes (next .held .ended) out
+  pub session : next .session ≡ telling .session
+  pub answered : next .answered ≡ telling .answered
+  pub left : heldIn (next .held) later-input ≡ drop (telling .place) bytes
+  -- it stops as the telling does, unless what was told could not be printed
+  pub stop : (next .stop ≡ telling .stop) ⊎ (next .stop ≡ Stop.End)
 
 -- what a telling of the bytes held returns lies within them and the buffers
 pub record Returns (answered from to : ℕ) (input out : List ℕ) (r : Telling) : Type 0 where
@@ -44,3 +90,35 @@ told-returns s answered from to input out ended sound within {r} e = record {
 
     size : length (take (to - from) (drop from input)) ≡ to - from
     size = length-take-le (to - from) (drop from input) (omega (arith, length-drop from input, within .0, within .1))
+
+-- the bytes behind a place of those held
+pub held-left : (input : List ℕ) (from to place : ℕ) → from + place ≤ to → to ≤ length input
+    → take (to - (from + place)) (drop (from + place) input) ≡ drop place (take (to - from) (drop from input))
+held-left input from to place h k =
+    sym
+    (ap (λ (n : ℕ). drop place (take n (drop from input))) split
+    ∙ ap (drop place) (take-add place (to - (from + place)) (drop from input))
+    ∙ drop-at (take place (drop from input)) (take (to - (from + place)) (drop place (drop from input))) place (length-take-le place (drop from input) (omega (arith, length-drop from input)))
+    ∙ ap (take (to - (from + place))) (drop-drop place from input))
+  where
+    split : to - from ≡ place + (to - (from + place))
+    split = omega arith
+
+-- the bytes held moved to the front, and a read behind them
+pub read-behind : (before moved tail rest : List ℕ) (kept got : ℕ) → take kept moved ≡ before → kept ≤ length moved → got ≤ length tail
+    → ReadBehind before (heldIn (record { from = 0; to = kept + got; ended = eqb got 0 }) (take kept moved ++ (tail ++ rest))) (eqb got 0)
+read-behind before moved tail rest kept got same room few = record {
+  read = take got tail;
+  behind = ap (λ (n : ℕ). take n (take kept moved ++ (tail ++ rest))) size ∙ take-append-add (take kept moved) (tail ++ rest) got ∙ ap (λ (l : List ℕ). take kept moved ++ l) (take-append-le got tail rest few) ∙ ap (λ (l : List ℕ). l ++ take got tail) same;
+  ends = ap (λ (n : ℕ). eqb n 0) (sym (length-take-le got tail few));
+}
+  where
+    size : kept + got - 0 ≡ length (take kept moved) + got
+    size = omega (arith, length-take-le kept moved room)
+
+-- A7: a turn prints and leaves what a turn of `fed` does, where the input has ended just when no read is to come.
+pub turn-is-fed : (run next : Run) (input out later-input later-out : List ℕ) (t : Turned run input out next later-input later-out) (reads : List (List ℕ)) → isEnd reads ≡ next .held .ended → (turns : ℕ)
+    → fed (suc turns) out (run .session) (run .answered) (t .bytes) reads
+    ≡ take (t .telling .at) later-out ++ goFeed (t .telling .stop) (fed turns later-out (next .session) (next .answered)) (heldIn (next .held) later-input) reads
+unfolding fed
+turn-is-fed run next input out later-input later-out t reads e turns = rw (e, ← t .tells, t .session, t .answered, t .left)

@@ -6,9 +6,10 @@ use session::Session;
 use transcript::Stop;
 use transcript::told;
 ghost use mathlib.Core.Path.{_≡_};
+ghost use mathlib.Core.Logic.{_⊎_};
 ghost use Prim.Native.Nat.{_+_, _-_, _≤_, _<_, _^_};
 ghost use lib.ListN.{length, take, drop};
-ghost use Rattle.replay.specs.Turns.{Within, Going};
+ghost use Rattle.replay.specs.Turns.{Within, heldIn, waitsFor, ReadBehind, Fetched, Going, Turned};
 
 // A loop must end and nothing says that an input does: so many turns, of at least one read or one record each, are more than any run takes.
 const MOST_TURNS: u64 = 1_099_511_627_776;
@@ -28,18 +29,23 @@ pub struct Run {
     pub stop: Stop,
 }
 
-fn waits(stop: Stop) -> bool {
+fn waits(stop: Stop) -> bool
+    ensures { λ r. ⌜ r ≡ waitsFor stop ⌝ }
+{
     match stop {
+        Stop::Full => false,
         Stop::Waits => true,
-        _ => false,
+        Stop::Fault => false,
+        Stop::End => false,
     }
 }
 
 fn is_over(stop: Stop) -> bool {
     match stop {
+        Stop::Full => false,
+        Stop::Waits => false,
         Stop::Fault => true,
         Stop::End => true,
-        _ => false,
     }
 }
 
@@ -50,7 +56,7 @@ fn say(line: &[u8]) {
 // The bytes from one place to another, moved to the front; how many they are.
 fn moved_to_front(bytes: &mut [u8], from: usize, to: usize) -> usize
     requires { ⌜ (from ≤ to) × (to ≤ length (now bytes)) ⌝ }
-    ensures { λ r. ⌜ (r ≡ to - from) × (take r (now (bytes .exit)) ≡ drop from (take to (now (bytes .entry)))) ⌝ }
+    ensures { λ r. ⌜ (r ≡ to - from) × (take r (now (bytes .exit)) ≡ take (to - from) (drop from (now (bytes .entry)))) ⌝ }
 {
     let n = to - from;
     let mut i: usize = 0;
@@ -75,7 +81,7 @@ fn read_some(bytes: &mut [u8]) -> usize
 // One read behind the bytes held. They are fewer than a record's, so there is room for it.
 fn read_behind(input: &mut [u8], held: Held) -> Held
     requires { ⌜ Within (length (now input)) held ⌝ }
-    ensures { λ r. ⌜ Within (length (now (input .entry))) r ⌝ }
+    ensures { λ r. ⌜ Within (length (now (input .entry))) r × ReadBehind (heldIn held (now (input .entry))) (heldIn r (now (input .exit))) (r .ended) ⌝ }
 {
     let kept = moved_to_front(input, held.from, held.to);
     let got = read_some(&mut input[kept..]);
@@ -86,9 +92,10 @@ fn read_behind(input: &mut [u8], held: Held) -> Held
     }
 }
 
+// The bytes for the next telling: one read more where the last one waits for it.
 fn next_held(input: &mut [u8], held: Held, stop: Stop) -> Held
     requires { ⌜ Within (length (now input)) held ⌝ }
-    ensures { λ r. ⌜ Within (length (now (input .entry))) r ⌝ }
+    ensures { λ r. ⌜ Within (length (now (input .entry))) r × Fetched stop (heldIn held (now (input .entry))) (held .ended) (heldIn r (now (input .exit))) (r .ended) ⌝ }
 {
     if waits(stop) {
         return read_behind(input, held);
@@ -97,7 +104,9 @@ fn next_held(input: &mut [u8], held: Held, stop: Stop) -> Held
 }
 
 // What was told goes to standard output. Where it can't be written, the run is over.
-fn print(text: &[u8], stop: Stop) -> Stop {
+fn print(text: &[u8], stop: Stop) -> Stop
+    ensures { λ r. ⌜ (r ≡ stop) ⊎ (r ≡ Stop.End) ⌝ }
+{
     let is_written = io::write_all(STDOUT_FILENO, text);
     if !is_written {
         say(b"replay: standard output can't be written\n");
@@ -109,7 +118,7 @@ fn print(text: &[u8], stop: Stop) -> Stop {
 // A turn: a read where the last telling waits for one, the bytes held told, and what was told printed.
 fn turned(run: Run, input: &mut [u8], output: &mut [u8]) -> Run
     requires { ⌜ Going (length (now input)) run × (run .answered + length (now input) < 2 ^ 64) ⌝ }
-    ensures { λ r. ⌜ Going (length (now (input .entry))) r × (r .answered ≤ run .answered + length (now (input .entry))) ⌝ }
+    ensures { λ r. ⌜ Going (length (now (input .entry))) r × (r .answered ≤ run .answered + length (now (input .entry))) × Turned run (now (input .entry)) (now (output .entry)) r (now (input .exit)) (now (output .exit)) ⌝ }
 {
     let before = run.held;
     let last = run.stop;

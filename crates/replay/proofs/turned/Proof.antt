@@ -1,11 +1,27 @@
--- What the telling returns lies within the bytes held and the buffers.
-use mathlib.Core.Path.{sym}
+-- The bytes fetched, told, and those behind what was told; what the telling returns lies within them and the buffers.
+use Prim.Native.Nat.{_≤_}
+use mathlib.Core.Path.{refl, sym}
+use lib.ListN.{length}
 use lib.Seq.{length-take-le}
-use Rattle.replay.specs.Turns.{told-returns}
+use Rattle.replay.specs.Turns.{heldIn, Returns, told-returns, held-left}
 use native.Mathlib.Omega.{arith}
 use borrow.Author.Needs.{needs}
 use Rattle.replay.proofs.turned.Statement.{statement}
 use Rattle.replay.proofs.turned.Tie as tie
+
+-- before a telling: the start, and the bytes fetched
+abbrev start : tie.After-told → tie.Start
+start c = c .before .before .before .before .before .before .before .before .before .before .before .before
+
+abbrev fetched : tie.After-told → tie.After-next-held
+fetched c = c .before .before .before .before .before .before .before
+
+within : (c : tie.After-told) → fetched c .next-held .result .to ≤ length (fetched c .next-held .last .0)
+within c = omega (arith, fetched c .next-held .ensures .0 .1, fetched c .next-held .kept .0)
+
+returned : (c : tie.After-told)
+    → Returns (start c .args .run .answered) (fetched c .next-held .result .from) (fetched c .next-held .result .to) (fetched c .next-held .last .0) (start c .args .output .now) (c .told .result)
+returned c = told-returns (start c .args .run .session) _ _ _ _ _ (fetched c .next-held .result .ended) (start c .pre .0 .sound) (fetched c .next-held .ensures .0 .0, within c) (c .told .ensures)
 
 next-held-requires : tie.Need-next-held-requires
 next-held-requires c κs = search needs
@@ -23,33 +39,20 @@ told-requires : tie.Need-told-requires
 told-requires c κs = search needs
 
 slice-reshare-prefix-print : tie.Need-slice-reshare-prefix-print
-slice-reshare-prefix-print c =
-    let pre = c .before .before .before .before .before .before .before .before .before .before .before .before .before .before .pre in
-    let a = c .before .before .before .before .before .before .before .before .before .before .before .before .before .before .args in
-    let h = c .before .before .before .before .before .before .before .before .before .next-held in
-    let r = told-returns (a .run .session) (a .run .answered) (h .result .from) (h .result .to) (h .last .0) (a .output .now) (h .result .ended) (pre .0 .sound) (h .ensures .0, omega (arith, h .ensures .1, h .kept .0)) (c .before .before .told .ensures) in
-    omega (arith, r .text-within, c .before .before .told .kept .1 .1 .1 .1 .0)
+slice-reshare-prefix-print c = omega (arith, returned (c .before .before) .text-within, c .before .before .told .kept .1 .1 .1 .1 .0)
 
 slice-aggregate-print : tie.Need-slice-aggregate-print
 slice-aggregate-print c =
-    let pre = c .before .before .before .before .before .before .before .before .before .before .before .before .before .before .before .pre in
-    let told = c .before .before .before .told in
-    let a = c .before .before .before .before .before .before .before .before .before .before .before .before .before .before .before .args in
-    let h = c .before .before .before .before .before .before .before .before .before .before .next-held in
-    let r = told-returns (a .run .session) (a .run .answered) (h .result .from) (h .result .to) (h .last .0) (a .output .now) (h .result .ended) (pre .0 .sound) (h .ensures .0, omega (arith, h .ensures .1, h .kept .0)) (told .ensures) in
-    sym (length-take-le (told .result .at) (told .last .1 .1 .1 .1 .0) (omega (arith, r .text-within, told .kept .1 .1 .1 .1 .0)))
+    let t = c .before .before .before in
+    sym (length-take-le (t .told .result .at) (t .told .last .1 .1 .1 .1 .0) (omega (arith, returned t .text-within, t .told .kept .1 .1 .1 .1 .0)))
 
 print-requires : tie.Need-print-requires
 print-requires c κs = search needs
 
 add-t18 : tie.Need-add-t18
 add-t18 c =
-    let pre = c .before .before .before .before .before .before .before .before .before .before .before .before .before .before .before .before .before .before .pre in
-    let told = c .before .before .before .before .before .before .told in
-    let a = c .before .before .before .before .before .before .before .before .before .before .before .before .before .before .before .before .before .before .args in
-    let h = c .before .before .before .before .before .before .before .before .before .before .before .before .before .next-held in
-    let r = told-returns (a .run .session) (a .run .answered) (h .result .from) (h .result .to) (h .last .0) (a .output .now) (h .result .ended) (pre .0 .sound) (h .ensures .0, omega (arith, h .ensures .1, h .kept .0)) (told .ensures) in
-    omega (arith, r .place-within)
+    let t = c .before .before .before .before .before .before in
+    omega (arith, returned t .place-within, fetched t .next-held .ensures .0 .1, start t .pre .1)
 
 same-length : tie.Need-same-length
 same-length c = search needs
@@ -59,12 +62,22 @@ same-length-2 c = search needs
 
 returns : tie.Need-returns
 returns c =
-    let pre = c .before .before .before .before .before .before .before .before .before .before .before .before .before .before .before .before .before .before .pre in
-    let told = c .before .before .before .before .before .before .told in
-    let a = c .before .before .before .before .before .before .before .before .before .before .before .before .before .before .before .before .before .before .args in
-    let h = c .before .before .before .before .before .before .before .before .before .before .before .before .before .next-held in
-    let r = told-returns (a .run .session) (a .run .answered) (h .result .from) (h .result .to) (h .last .0) (a .output .now) (h .result .ended) (pre .0 .sound) (h .ensures .0, omega (arith, h .ensures .1, h .kept .0)) (told .ensures) in
-    (record { held-within = (r .place-within, h .ensures .1); sound = r .sound }, omega (arith, r .counted, h .kept .0))
+    let t = c .before .before .before .before .before .before in
+    let h = fetched t .next-held in
+    let r = returned t in (
+      record { held-within = (r .place-within, h .ensures .0 .1); sound = r .sound },
+      omega (arith, r .counted, h .kept .0),
+      record {
+        bytes = heldIn (h .result) (h .last .0);
+        fetched = h .ensures .1;
+        telling = t .told .result;
+        tells = t .told .ensures;
+        session = refl;
+        answered = refl;
+        left = held-left (h .last .0) (h .result .from) (h .result .to) (t .told .result .place) (r .place-within) (within t);
+        stop = c .before .before .print .ensures;
+      },
+    )
 
 pub turned-spec : {M : Type 1} → statement M
 turned-spec =

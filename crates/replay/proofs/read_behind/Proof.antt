@@ -1,0 +1,45 @@
+use Rattle.replay.specs.Turns.{heldIn, read-behind}
+use native.Mathlib.Omega.{arith}
+use borrow.Author.Needs.{needs}
+use Rattle.replay.proofs.read_behind.Statement.{statement}
+use Rattle.replay.proofs.read_behind.Tie as tie
+
+moved-to-front-requires : tie.Need-moved-to-front-requires
+moved-to-front-requires c κs = search needs
+
+sub-read-some : tie.Need-sub-read-some
+sub-read-some c = search needs
+
+part-read-some-start : tie.Need-part-read-some-start
+part-read-some-start c = search needs
+
+part-read-some-end : tie.Need-part-read-some-end
+part-read-some-end c = search needs
+
+read-some-requires : tie.Need-read-some-requires
+read-some-requires c κs = search needs
+
+add-t8 : tie.Need-add-t8
+add-t8 c = search needs
+
+same-length : tie.Need-same-length
+same-length c = search needs
+
+returns : tie.Need-returns
+returns c =
+    let a = c .before .before .before .before .before .before .before .before .before .args in
+    let moved-to-front = c .before .before .before .before .before .before .moved-to-front in
+    (search needs, read-behind (heldIn (a .held) (a .input .now)) (moved-to-front .last .0) (c .before .before .read-some .last .0) _ (moved-to-front .result) (c .before .before .read-some .result) (moved-to-front .ensures .1) (omega arith) (omega (arith, c .before .before .read-some .ensures, c .before .before .read-some .kept .0)))
+
+pub read-behind-spec : {M : Type 1} → statement M
+read-behind-spec =
+    tie.close
+    (tie.spec
+    moved-to-front-requires
+    sub-read-some
+    part-read-some-start
+    part-read-some-end
+    read-some-requires
+    add-t8
+    same-length
+    returns)
