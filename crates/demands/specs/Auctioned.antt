@@ -42,7 +42,7 @@ use Rattle.session.specs.Auctions.{AuctionLeaves, part, outcomeOf, tradesNow, s
 use Rattle.demands.specs.Traded.{Ranged, sound-ranged, no-list-moves-more, bought-is-sold, nobody-passed-over, nothing-left-could-trade, list-of-trades}
 use Rattle.demands.specs.Outcomes.{CarriedOut, carried-out}
 
--- .. and the price beside each
+-- the prices beside the first k trades of a lent list, read back (`tradesRead` has the trades)
 abbrev pub pricesRead : ℕ → List ℕ → List ℕ
 pricesRead zero list = []
 pricesRead (suc k) [] = []

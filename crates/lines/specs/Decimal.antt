@@ -74,24 +74,6 @@ digits-length (suc n) x = go (ltb x 10) refl (digits-length n (x / 10))
 pub decimal-length : (x : ℕ) → length (decimal x) ≤ 20
 decimal-length x = digits-length 20 x
 
--- a number below a power of ten has as many digits at most
-digits-below : (f n x : ℕ) → x < 10 ^ suc n → length (digits f x) ≤ suc n
-digits-below zero n x h = rw (digits-none x) (omega arith)
-digits-below (suc f) n x h = go (ltb x 10) refl n h (λ m. digits-below f m (x / 10))
-  where
-    less : (p : ℕ) → x < p * 10 → x / 10 < p
-    less p b = omega (arith, b)
-
-    go : (b : Bool) → ltb x 10 ≡ b → (k : ℕ) → x < 10 ^ suc k → ((m : ℕ) → x / 10 < 10 ^ suc m → length (digits f (x / 10)) ≤ suc m) → length (digits (suc f) x) ≤ suc k
-    go true e k b r = rw (digits-small f x (ltb-true x 10 e)) (omega arith)
-    go false e zero b r = absurd (omega (arith, b, ltb-false x 10 e))
-    go false e (suc m) b r =
-        rw (digits-large f x (ltb-false x 10 e))
-        (omega (arith, r m (less (10 ^ suc m) (rw (pow-suc 10 (suc m)) at b)), length-append (digits f (x / 10)) (digit (x % 10) ∷ [])))
-
-pub decimal-below : (n x : ℕ) → x < 10 ^ suc n → length (decimal x) ≤ suc n
-decimal-below n x h = digits-below 20 n x h
-
 -- after n - 1 divisions by ten, each of which takes a digit off
 abbrev pub Counted : ℕ → ℕ → ℕ → Type 0
 Counted x n rest = (n ≤ 20) × (rest < 10 ^ (21 - n)) × (length (digits (21 - n) rest) + n ≡ length (decimal x) + 1)

@@ -31,7 +31,7 @@ faultRoom = placeRoom + numbersRoom 1
 abbrev pub endRoom : ℕ
 endRoom = length endWord + numbersRoom 1
 
-pub numeral-length : (x : ℕ) → length (numeral x) ≤ 21
+numeral-length : (x : ℕ) → length (numeral x) ≤ 21
 numeral-length x = omega (arith, decimal-length x)
 
 numbers-length : (xs : List ℕ) → length (numbers xs) ≤ numbersRoom (length xs)
