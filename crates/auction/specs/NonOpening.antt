@@ -14,7 +14,7 @@ use Rattle.queue.specs.Sides.{isUnlimited, sameSide-eq, sameSide-refl}
 use Rattle.queue.specs.Distinct.{Distinct, distinct-sum}
 use Rattle.queue.specs.Rank.{onSide, betterLimit, ahead-limit, ranked, ranked-in-order}
 use Rattle.fills.specs.Fill.{FrontPart, ranked-front}
-use Rattle.price.specs.Interest.{interest, executable}
+use Rattle.price.specs.Interest.{interest, executable, executable-within}
 use Rattle.price.specs.Candidates.{limits, mostExecutable}
 use Rattle.trades.specs.declared.{Trade.Trade}
 use Rattle.trades.specs.Trades.{party, traded, volume, TradeList, volume-le-most}
@@ -94,13 +94,9 @@ fillable-within reference book d = (
   (λ (p, trades, possible, filled). filled-within reference p book trades d possible filled),
   (λ h.
       let (c, listed, e) = highest-at (executable book) reference (limits book) in
-      let enough : (s : Side) → executable book c ≤ interest s c book = smaller c in
+      let enough : (s : Side) → executable book c ≤ interest s c book = λ s. executable-within s c book in
       (c, tradesOf (executable book c) book, trades-possible c (executable book c) book d enough, fills-all c (executable book c) book d enough (λ s. omega (arith, h s)))),
 )
-  where
-    smaller : (c : ℕ) (s : Side) → executable book c ≤ interest s c book
-    smaller c Buy = omega arith
-    smaller c Sell = omega arith
 
 pub non-opening-exactly : (reference : ℕ) (book : List Order) → Distinct book → T (nonOpening reference book) ↔ (Fillable book → ⊥)
 unfolding nonOpening

@@ -1,6 +1,6 @@
 -- Groups: places that are looked at together, and where the place sought is then.
 use Prim.Native.Nat.{ℕ, zero, suc, _+_, _≤_, _<_}
-use mathlib.Core.Bool.{Bool, true, false, _||_, or-assoc, or-false, and-false, true≢false}
+use mathlib.Core.Bool.{Bool, true, false, _||_, or-assoc, or-false, and-false}
 use mathlib.Core.Path.{_≡_, refl}
 use mathlib.Core.List.{List}
 use lib.Dec.{eqb}
@@ -8,6 +8,7 @@ use lib.ListN.{getD}
 use native.Mathlib.Nat.{add-zero, add-suc, zero-add, suc-add}
 use native.Mathlib.Numerals.{unary-clauses}
 use native.Mathlib.Omega.{arith}
+use Rattle.lists.specs.Tests.{neither}
 use Rattle.book.specs.Resting.{placeIn, isSought, firstOr}
 
 abbrev hasAt : List ℕ → ℕ → ℕ → Bool
@@ -25,10 +26,6 @@ pub has-number-eight : (numbers : List ℕ) (number place : ℕ)
     ≡ hasNumber numbers number place 8
 unfolding hasNumber
 has-number-eight numbers number place = simp (or-assoc, or-false, unary-clauses)
-
-neither : (a b : Bool) → (a || b) ≡ false → (a ≡ false) × (b ≡ false)
-neither true b h = absurd (true≢false h)
-neither false b h = (refl, h)
 
 module _ (taken numbers members : List ℕ) (number member : ℕ) where
   abbrev sought : ℕ → ℕ → ℕ

@@ -18,7 +18,7 @@ use Rattle.queue.specs.Reach.{resting-distinct, resting-live}
 use Rattle.queue.specs.Part.{takingPart, takingPart-distinct, takingPart-elim, takingPart-length}
 use Rattle.queue.specs.Distinct.{Distinct}
 use Rattle.queue.specs.Rank.{ahead, onSide}
-use Rattle.price.specs.Interest.{interest, executable}
+use Rattle.price.specs.Interest.{interest, executable, executable-within}
 use Rattle.price.specs.Candidates.{mostExecutable}
 use Rattle.price.specs.Chain.{price-best, price-none, price-most, no-price-most}
 use Rattle.trades.specs.declared.{Trade.Trade}
@@ -70,14 +70,10 @@ module _ (a : Auction) (delayed : Bool) (threshold reference : ℕ) (resting : L
   took-place : T (takesPlace result) → TookPlace result
   took-place h = go result refl h
     where
-      smaller : (p q : ℕ) → q ≡ executable book p → (s : Side) → q ≤ interest s p book
-      smaller p q i Buy = omega arith
-      smaller p q i Sell = omega arith
-
       go : (o : Outcome) → result ≡ o → T (takesPlace o) → TookPlace o
       go (Traded p q) e h =
           let (found, i) = outcome-traded a delayed threshold reference book p q e in
-          record { enough = smaller p q i; best = λ r. omega (arith, price-best reference book p found r); most = i ∙ price-most reference book p found; exact = refl }
+          record { enough = λ s. omega (arith, executable-within s p book); best = λ r. omega (arith, price-best reference book p found r); most = i ∙ price-most reference book p found; exact = refl }
       go NoTrade e h =
           let found = outcome-no-trade a delayed threshold reference book e in
           record { enough = λ s. omega arith; best = λ r. omega (arith, price-none reference book .0 found r); most = sym (no-price-most reference book found); exact = sym (trades-none book) }

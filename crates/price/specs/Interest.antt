@@ -3,6 +3,7 @@ use Prim.Native.Nat.{ℕ, _≤_, min}
 use mathlib.Core.Bool.{Bool, not, _&&_}
 use mathlib.Core.Logic.{_⊎_, inl, inr, ⊎-map}
 use mathlib.Core.List.{List}
+use native.Mathlib.Omega.{arith}
 use lib.Dec.{T}
 use Rattle.lists.specs.Tests.{tests, and-mono}
 use Rattle.lists.specs.Sums.{apart, counted, counted-mono, sum, sum-mono}
@@ -31,6 +32,11 @@ executable book p = min (demand book p) (supply book p)
 -- the difference between demand and supply
 abbrev pub difference : List Order → ℕ → ℕ
 difference book p = apart (demand book p) (supply book p)
+
+-- what is executable is within what each side offers
+pub executable-within : (s : Side) (p : ℕ) (book : List Order) → executable book p ≤ interest s p book
+executable-within Buy p book = omega arith
+executable-within Sell p book = omega arith
 
 -- a worse price is allowed by fewer limits
 allows-mono : (s : Side) (p q : ℕ) (w : Limit) → T (noWorse s p q) → T (allows s q w) → T (allows s p w)

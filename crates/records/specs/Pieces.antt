@@ -8,6 +8,7 @@ use lib.ListN.{length, drop, length-append, length-drop, List·getD-append}
 use lib.Seq.{take-append-le, drop-append-le, getD-drop, drop-drop}
 use native.Mathlib.Omega.{arith}
 use borrow.Author.Tests.{le-ltb, lt-ltb, ltb-true, ltb-false, leb-true, leb-false}
+use Rattle.lists.specs.Tests.{neither}
 use Rattle.records.specs.declared.{Record.Record, Read.Read}
 use Rattle.records.specs.Fields.{number, headerLength}
 use Rattle.records.specs.Walk.{lengthAt, partAt, isFaulty, recordAt}
@@ -35,10 +36,6 @@ cut-front : (bytes more : List ℕ) (place : ℕ) → headerLength < lengthAt by
     → isCut (bytes ++ more) place ≡ false
 cut-front bytes more place h k =
     le-ltb (length (bytes ++ more)) (place + lengthAt (bytes ++ more) place) (rw (length-append bytes more, number-front 2 bytes more place (omega arith)) (omega arith))
-
-neither : (a b : Bool) → a || b ≡ false → (a ≡ false) × (b ≡ false)
-neither true b h = absurd (true≢false h)
-neither false b h = (refl, h)
 
 -- more bytes don't change what is whole, or faulty already
 pub settled-read : (bytes : List ℕ) (place : ℕ) → needsMore bytes place ≡ false → (more : List ℕ) → recordAt (bytes ++ more) place ≡ recordAt bytes place

@@ -17,7 +17,7 @@ use Rattle.book.specs.declared.Book.{Book}
 use Rattle.book.specs.Resting.{resting}
 use Rattle.book.specs.Rests.{resting-length}
 use Rattle.queue.specs.Part.{takingPart-length}
-use Rattle.price.specs.Interest.{interest, executable}
+use Rattle.price.specs.Interest.{interest, executable-within}
 use Rattle.trades.specs.declared.{Trade.Trade}
 use Rattle.auction.specs.declared.{Outcome.Outcome, Outcome.the-variants.Traded, Outcome.the-variants.NoTrade, Outcome.the-variants.NonOpening, Outcome.the-variants.Delayed}
 use Rattle.trades.specs.Fills.{tradesOf, trades-none, trades-count}
@@ -84,11 +84,7 @@ module _ (s : Session) (sound : Sound s) (a : Auction) where
   unfolding outcomeOf
   enough price quantity e on =
       let (found, i) = outcome-traded a (s .delayed) (s .parameters .threshold) (s .reference) (part s a) price quantity e in
-      smaller on i
-    where
-      smaller : (on : Side) → quantity ≡ executable (part s a) price → quantity ≤ interest on price (part s a)
-      smaller Buy i = omega arith
-      smaller Sell i = omega arith
+      omega (arith, executable-within on price (part s a))
 
   -- each outcome, as the code leaves it
   traded-leaves : (price quantity count : ℕ) → outcomeOf s a ≡ Traded price quantity → count ≡ length (tradesBy s a quantity) → (list left : List ℕ)
