@@ -9,7 +9,7 @@ use lib.Dec.{T}
 use lib.ListN.{length}
 use Rattle.lists.specs.Sums.{_∈_, counted, sum}
 use Rattle.terms.specs.Bounds.{places, maxTrades}
-use Rattle.terms.specs.declared.orders.{Side.Side, Side.the-variants.Buy, Side.the-variants.Sell, Auction.Auction, Auction.the-variants.Opening, Auction.the-variants.Closing, Order.Order}
+use Rattle.terms.specs.declared.orders.{Side.Side, Auction.Auction, Auction.the-variants.Opening, Auction.the-variants.Closing, Order.Order}
 use Rattle.book.specs.Resting.{resting}
 use Rattle.book.specs.Rests.{resting-length}
 use Rattle.session.specs.declared.{Session.Session}

@@ -1,11 +1,9 @@
 -- The auction and the theoretical answer: what each call returns and leaves, refusals included.
 use Prim.Native.Nat.{ℕ, zero, suc}
-use mathlib.Core.Bool.{true, cond, not}
-use mathlib.Core.List.{List, [], _∷_}
-use lib.Dec.{ltb}
+use mathlib.Core.Bool.{true}
+use mathlib.Core.List.{List, []}
 use lib.ListN.{length}
-use Rattle.terms.specs.Bounds.{tradeListLength}
-use Rattle.terms.specs.Orders.{isAuction, auctionOf}
+use Rattle.terms.specs.Orders.{auctionOf}
 use Rattle.terms.specs.declared.orders.{Auction.Auction, AuctionMade.AuctionMade, Order.Order}
 use Rattle.book.specs.Resting.{resting, changed}
 use Rattle.queue.specs.Part.{takingPart}
@@ -14,9 +12,8 @@ use Rattle.auction.specs.declared.{Outcome.Outcome, Outcome.the-variants.Traded
 use Rattle.auction.specs.Outcome.{outcome, trades, outcomeNumber, priceAnswered, quantityAnswered, countAnswered}
 use Rattle.auction.specs.After.{restOf}
 use Rattle.trades.specs.Written.{written}
-use Rattle.refusals.specs.declared.phases.{Phase.Phase}
 use Rattle.session.specs.declared.{Session.Session, AuctionAnswer.AuctionAnswer, Auctioned.Auctioned, Foreseen.Foreseen}
-use Rattle.refusals.specs.Phases.{hasStarted, allowsAuction, phaseAfter}
+use Rattle.refusals.specs.Phases.{phaseAfter}
 use Rattle.refusals.specs.Checks.{Check, firstHit}
 use Rattle.refusals.specs.Rows.{auctionRows, theoreticalRows}
 

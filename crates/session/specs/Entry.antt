@@ -1,24 +1,19 @@
 -- Fresh, start, order and delete: what each call returns and leaves, refusals included.
 use Prim.Native.Nat.{ℕ, zero, suc, _+_}
-use mathlib.Core.Bool.{Bool, false, not, _&&_}
+use mathlib.Core.Bool.{false, not}
 use mathlib.Core.Logic.{_≢_}
 use mathlib.Core.Path.{_≡_, refl}
-use mathlib.Core.List.{List, [], _∷_}
-use lib.Dec.{eqb, leb}
+use mathlib.Core.List.{List}
 use Rattle.lists.specs.Choice.{any}
-use Rattle.terms.specs.Bounds.{places, maxNumber}
-use Rattle.terms.specs.Kinds.{isNumber, isMember}
-use Rattle.terms.specs.Orders.{isEntry, orderOf}
-use Rattle.terms.specs.Parameters.{areParameters}
+use Rattle.terms.specs.Orders.{orderOf}
 use Rattle.terms.specs.declared.orders.{OrderMade.OrderMade, Entry.Entry}
 use Rattle.terms.specs.declared.parameters.{Parameters.Parameters}
 use Rattle.book.specs.declared.Book.{Book}
 use Rattle.places.specs.Places.{lowestFree, countTaken}
 use Rattle.book.specs.Columns.{emptyBook, stored, cleared}
 use Rattle.book.specs.Resting.{resting, placeOf, isOf}
-use Rattle.refusals.specs.declared.phases.{Phase.Phase, Phase.the-variants.Fresh, Phase.the-variants.PreOpening}
+use Rattle.refusals.specs.declared.phases.{Phase.the-variants.Fresh, Phase.the-variants.PreOpening}
 use Rattle.session.specs.declared.{Session.Session, Started.Started, Entered.Entered, Deleted.Deleted}
-use Rattle.refusals.specs.Phases.{hasStarted, allowsOrder}
 use Rattle.refusals.specs.Checks.{Check, firstHit}
 use Rattle.refusals.specs.Rows.{startRows, orderRows, deleteRows}
 

@@ -1,22 +1,20 @@
 -- The ranked queue and the filled front: what each call returns and leaves, refusals included.
 use Prim.Native.Nat.{ℕ, zero, suc}
-use mathlib.Core.Bool.{Bool, true, false, true≢false, not, _&&_, _||_}
+use mathlib.Core.Bool.{Bool, true, false, true≢false, not, _||_}
 use mathlib.Core.Logic.{_≢_}
 use mathlib.Core.Path.{_≡_, refl, sym, ap, _∙_}
-use mathlib.Core.List.{List, [], _∷_, _++_, map}
+use mathlib.Core.List.{List, [], _++_, map}
 use borrow.Author.Tests.{eq-eqb, ne-eqb}
 use lib.Dec.{T, leb, ltb}
 use Rattle.lists.specs.Tests.{tests, and-both}
 use lib.ListN.{length, take, drop}
 use Rattle.terms.specs.Bounds.{places}
-use Rattle.terms.specs.Orders.{isSide, isAuction, sideOf, auctionOf}
+use Rattle.terms.specs.Orders.{isSide, sideOf, auctionOf}
 use Rattle.terms.specs.Made.{side-made}
 use Rattle.terms.specs.declared.orders.{Side.Side, Side.the-variants.Buy, Side.the-variants.Sell, SideMade.SideMade, Auction.Auction, AuctionMade.AuctionMade}
 use Rattle.queue.specs.Rank.{ranked}
 use Rattle.fills.specs.Front.{front, front-longest}
-use Rattle.refusals.specs.declared.phases.{Phase.Phase}
 use Rattle.session.specs.declared.{Session.Session, Queued.Queued}
-use Rattle.refusals.specs.Phases.{hasStarted}
 use Rattle.refusals.specs.Checks.{Check, firstHit}
 use Rattle.refusals.specs.Rows.{rankedRows, frontRows}
 use Rattle.refusals.specs.Exactly.{none-hit}
