@@ -16,7 +16,8 @@ use Rattle.terms.specs.Orders.{validityNumber}
 use Rattle.terms.specs.declared.orders.{Validity.Validity, Validity.the-variants.AtOpening, Validity.the-variants.AtClose, Validity.the-variants.Day, Validity.the-variants.LaterDay, Auction.Auction, Auction.the-variants.Opening, Auction.the-variants.Closing, Order.Order}
 use Rattle.book.specs.declared.Book.{Book}
 use Rattle.places.specs.Places.{isTaken, marked, unmarked}
-use Rattle.book.specs.Columns.{Raw, rawAt, rawOf, orderFrom, orderAt, emptyRaw, written, stored, cleared}
+use Rattle.book.specs.Columns.{valuesAt, valuesOf, orderFrom, orderAt, emptyValues, written, stored, cleared}
+use Rattle.book.specs.declared.Values.{Values}
 use Rattle.book.specs.Resting.{putBack, changedAt, changedTo, changed}
 use Rattle.book.specs.Sound.{SoundOrder, SoundBook}
 use Rattle.book.specs.Changed.{changed-to-later}
@@ -58,7 +59,7 @@ settled a rests b = settledTo a rests b places
 -- one place on: its order leaves, or rests with what is left, or the place is free
 module _ (a : Auction) (rests : List ℕ) (b c : Book) (n : ℕ) (so-far : c ≡ settledTo a rests b n) where
   pub settled-clear : (words : List ℕ) → isTaken (c .taken) n ≡ true → (eqb (getD rests n 0) 0 || endsAs a (getD (c .validity) n 0)) ≡ true → words ≡ unmarked (c .taken) n
-      → written c words n emptyRaw ≡ settledTo a rests b (n + 1)
+      → written c words n emptyValues ≡ settledTo a rests b (n + 1)
   unfolding settledTo cleared
   settled-clear words taken leaves e = rw (add-one, ← so-far, taken, leaves, e)
 
@@ -87,7 +88,7 @@ unfolding marked
 marked-again words place e = rw e (set-getD words _ 0)
 
 -- What rests at a taken place is stored by writing its open quantity alone.
-module _ (a : Auction) (trades : List Trade) (c : Book) (place : ℕ) (taken : isTaken (c .taken) place ≡ true) (coded : rawOf (orderAt c place) ≡ rawAt c place) where
+module _ (a : Auction) (trades : List Trade) (c : Book) (place : ℕ) (taken : isTaken (c .taken) place ≡ true) (coded : valuesOf (orderAt c place) ≡ valuesAt c place) where
   stored-left : stored c place (remaining trades (orderAt c place)) ≡ withLeft c place (remaining trades (orderAt c place) .left)
   unfolding stored
   stored-left =
@@ -95,11 +96,11 @@ module _ (a : Auction) (trades : List Trade) (c : Book) (place : ℕ) (taken : i
         marked-again (c .taken) place taken,
         set-getD (c .number) place 0,
         set-getD (c .member) place 0,
-        ap (λ (r : Raw). r .side) coded,
+        ap (λ (r : Values). r .side) coded,
         set-getD (c .side) place 0,
-        ap (λ (r : Raw). r .validity) coded,
+        ap (λ (r : Values). r .validity) coded,
         set-getD (c .validity) place 0,
-        ap (λ (r : Raw). r .limit) coded,
+        ap (λ (r : Values). r .limit) coded,
         set-getD (c .limit) place 0,
       )
 
@@ -110,7 +111,7 @@ module _ (a : Auction) (trades : List Trade) (c : Book) (place : ℕ) (taken : i
   settled-taken rests e = rw (e, ends-here) (go (leaves a (remaining trades (orderAt c place))))
     where
       ends-here : endsAs a (getD (c .validity) place 0) ≡ ends a (orderAt c place .validity)
-      ends-here = ap (endsAs a) (sym (ap (λ (r : Raw). r .validity) coded)) ∙ ends-same a (orderAt c place .validity)
+      ends-here = ap (endsAs a) (sym (ap (λ (r : Values). r .validity) coded)) ∙ ends-same a (orderAt c place .validity)
 
       go : (t : Bool) → cond t (cleared c place) (withLeft c place (remaining trades (orderAt c place) .left)) ≡ putBack c place (cond t none (some (remaining trades (orderAt c place))))
       go true = refl
@@ -120,7 +121,7 @@ module _ (a : Auction) (trades : List Trade) (c : Book) (place : ℕ) (taken : i
 abbrev LeftOf : List Trade → List ℕ → Book → ℕ → Type 0
 LeftOf trades rests b p = isTaken (b .taken) p ≡ true → getD rests p 0 ≡ remaining trades (orderAt b p) .left
 
-settled-at : (a : Auction) (trades : List Trade) (rests : List ℕ) (c : Book) (place : ℕ) → (isTaken (c .taken) place ≡ true → rawOf (orderAt c place) ≡ rawAt c place) → LeftOf trades rests c place
+settled-at : (a : Auction) (trades : List Trade) (rests : List ℕ) (c : Book) (place : ℕ) → (isTaken (c .taken) place ≡ true → valuesOf (orderAt c place) ≡ valuesAt c place) → LeftOf trades rests c place
     → settledAt a rests c place ≡ changedAt (restOf a trades) c place
 settled-at a trades rests c place coded left = go (isTaken (c .taken) place) refl
   where
@@ -164,8 +165,8 @@ module _ (step given : ℕ) (a : Auction) (trades : List Trade) where
       let (same, raw) = changed-to-later (restOf a trades) b (sound .sized) n n (omega arith) (omega arith) in
       rw (settled-changed-to rests b sound left n (omega arith))
       (settled-at a trades rests (changedTo (restOf a trades) b n) n
-      (λ e. ap (λ (r : Raw). rawOf (orderFrom r)) raw ∙ sound .each n (omega arith) .coded (sym same ∙ e) ∙ sym raw)
-      (λ e. left n (omega arith) (sym same ∙ e) ∙ ap (λ (r : Raw). remaining trades (orderFrom r) .left) (sym raw)))
+      (λ e. ap (λ (r : Values). valuesOf (orderFrom r)) raw ∙ sound .each n (omega arith) .coded (sym same ∙ e) ∙ sym raw)
+      (λ e. left n (omega arith) (sym same ∙ e) ∙ ap (λ (r : Values). remaining trades (orderFrom r) .left) (sym raw)))
 
   pub settled-changed : (rests : List ℕ) (b : Book) → SoundBook step given b
       → ((p : ℕ) → p < places → isTaken (b .taken) p ≡ true → getD rests p 0 ≡ orderAt b p .left - traded (orderAt b p .side) (orderAt b p .number) trades)

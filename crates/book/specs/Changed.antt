@@ -10,7 +10,7 @@ use Rattle.terms.specs.Bounds.{places}
 use Rattle.terms.specs.declared.orders.{Order.Order}
 use Rattle.book.specs.declared.Book.{Book}
 use Rattle.places.specs.Places.{isTaken}
-use Rattle.book.specs.Columns.{rawAt, rawOf, orderFrom, orderAt, emptyRaw, stored, cleared}
+use Rattle.book.specs.Columns.{valuesAt, valuesOf, orderFrom, orderAt, emptyValues, stored, cleared}
 use Rattle.book.specs.Changes.{Sized, SameAt, stored-taken, stored-raw, stored-order, stored-elsewhere, stored-sized, cleared-free, cleared-raw, cleared-elsewhere, cleared-sized}
 use Rattle.book.specs.Resting.{resting, putBack, changedAt, changedTo, changed}
 use Rattle.book.specs.Rests.{resting-elim, resting-intro}
@@ -18,8 +18,8 @@ use Rattle.book.specs.Sound.{SoundOrder, SoundBook, legal-limit, same-or
 
 -- what stands at a place afterwards
 pub record AfterAt (change : Order → Option Order) (b c : Book) (p : ℕ) : Type 0 where
-  pub free : isTaken (b .taken) p ≡ false → (isTaken (c .taken) p ≡ false) × (rawAt c p ≡ rawAt b p)
-  pub gone : isTaken (b .taken) p ≡ true → change (orderAt b p) ≡ none → (isTaken (c .taken) p ≡ false) × (rawAt c p ≡ emptyRaw)
+  pub free : isTaken (b .taken) p ≡ false → (isTaken (c .taken) p ≡ false) × (valuesAt c p ≡ valuesAt b p)
+  pub gone : isTaken (b .taken) p ≡ true → change (orderAt b p) ≡ none → (isTaken (c .taken) p ≡ false) × (valuesAt c p ≡ emptyValues)
   pub left : (o : Order) → isTaken (b .taken) p ≡ true → change (orderAt b p) ≡ some o → (isTaken (c .taken) p ≡ true) × (orderAt c p ≡ o)
 
 module _ (change : Order → Option Order) where
@@ -89,7 +89,7 @@ module _ (step given : ℕ) (change : Order → Option Order)
         changed-sound step given given (omega arith) b (stored b place o) sound place (stored-sized b (sound .sized) place here o) (stored-elsewhere b (sound .sized) place here o)
         (record {
           free = λ g. absurd (true≢false (sym (stored-taken b (sound .sized) place here o) ∙ g));
-          coded = λ g. ap rawOf back ∙ sym (stored-raw b (sound .sized) place here o);
+          coded = λ g. ap valuesOf back ∙ sym (stored-raw b (sound .sized) place here o);
           rests = λ g. rw back good;
         })
         (λ p n h g k i. n (sound .once p place h here g e (i ∙ ap (λ (x : Order). x .number) back ∙ same)))

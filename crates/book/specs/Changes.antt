@@ -14,7 +14,8 @@ use Rattle.terms.specs.declared.orders.{Side.Side, Side.the-variants.Buy, Side.
 use Rattle.book.specs.declared.Book.{Book}
 use Rattle.places.specs.Places.{isTaken, marked, unmarked}
 use Rattle.places.specs.Words.{marked-taken, marked-elsewhere, unmarked-free, unmarked-elsewhere, marked-length, unmarked-length}
-use Rattle.book.specs.Columns.{sideFrom, validityFrom, Raw, rawAt, rawOf, orderFrom, orderAt, emptyRaw, written, stored, cleared}
+use Rattle.book.specs.Columns.{sideFrom, validityFrom, valuesAt, valuesOf, orderFrom, orderAt, emptyValues, written, stored, cleared}
+use Rattle.book.specs.declared.Values.{Values}
 
 -- eight words, and columns of 512
 pub record Sized (b : Book) : Type 0 where
@@ -42,14 +43,14 @@ limit-back Unlimited h = refl
 limit-back (At zero) h = absurd h
 limit-back (At (suc n)) h = refl
 
-order-back : (o : Order) → T (isLimit (o .limit)) → orderFrom (rawOf o) ≡ o
+order-back : (o : Order) → T (isLimit (o .limit)) → orderFrom (valuesOf o) ≡ o
 order-back o h = rw (side-back (o .side), validity-back (o .validity), limit-back (o .limit) h)
 
-module _ (b : Book) (words : List ℕ) (place : ℕ) (r : Raw) where
-  written-elsewhere : (p : ℕ) → p ≢ place → rawAt (written b words place r) p ≡ rawAt b p
+module _ (b : Book) (words : List ℕ) (place : ℕ) (r : Values) where
+  written-elsewhere : (p : ℕ) → p ≢ place → valuesAt (written b words place r) p ≡ valuesAt b p
   written-elsewhere p n = simp getD-set-other
 
-  written-here : Sized b → place < places → rawAt (written b words place r) place ≡ r
+  written-here : Sized b → place < places → valuesAt (written b words place r) place ≡ r
   written-here sized h =
       rw (
         cell (b .number) (r .number) (sized .number),
@@ -76,7 +77,7 @@ module _ (b : Book) (words : List ℕ) (place : ℕ) (r : Raw) where
 
 -- another book is as this one at a place
 abbrev pub SameAt : Book → Book → ℕ → Type 0
-SameAt c b p = (isTaken (c .taken) p ≡ isTaken (b .taken) p) × (rawAt c p ≡ rawAt b p)
+SameAt c b p = (isTaken (c .taken) p ≡ isTaken (b .taken) p) × (valuesAt c p ≡ valuesAt b p)
 
 module _ (b : Book) (sized : Sized b) (place : ℕ) (here : place < places) where
   word-here : place / 64 < length (b .taken)
@@ -88,34 +89,34 @@ module _ (b : Book) (sized : Sized b) (place : ℕ) (here : place < places) wher
     unfolding stored
     stored-taken = marked-taken (b .taken) place word-here
 
-    pub stored-raw : rawAt (stored b place o) place ≡ rawOf o
+    pub stored-raw : valuesAt (stored b place o) place ≡ valuesOf o
     unfolding stored
-    stored-raw = written-here b (marked (b .taken) place) place (rawOf o) sized here
+    stored-raw = written-here b (marked (b .taken) place) place (valuesOf o) sized here
 
     pub stored-order : T (isLimit (o .limit)) → orderAt (stored b place o) place ≡ o
     stored-order h = ap orderFrom stored-raw ∙ order-back o h
 
     pub stored-elsewhere : (p : ℕ) → p ≢ place → SameAt (stored b place o) b p
     unfolding stored
-    stored-elsewhere p n = (marked-elsewhere (b .taken) place p word-here n, written-elsewhere b (marked (b .taken) place) place (rawOf o) p n)
+    stored-elsewhere p n = (marked-elsewhere (b .taken) place p word-here n, written-elsewhere b (marked (b .taken) place) place (valuesOf o) p n)
 
     pub stored-sized : Sized (stored b place o)
     unfolding stored
-    stored-sized = written-sized b (marked (b .taken) place) place (rawOf o) sized (marked-length (b .taken) place ∙ sized .taken)
+    stored-sized = written-sized b (marked (b .taken) place) place (valuesOf o) sized (marked-length (b .taken) place ∙ sized .taken)
 
   -- Clearing: the place is free and empty, and all others are as before.
   pub cleared-free : isTaken (cleared b place .taken) place ≡ false
   unfolding cleared
   cleared-free = unmarked-free (b .taken) place word-here
 
-  pub cleared-raw : rawAt (cleared b place) place ≡ emptyRaw
+  pub cleared-raw : valuesAt (cleared b place) place ≡ emptyValues
   unfolding cleared
-  cleared-raw = written-here b (unmarked (b .taken) place) place emptyRaw sized here
+  cleared-raw = written-here b (unmarked (b .taken) place) place emptyValues sized here
 
   pub cleared-elsewhere : (p : ℕ) → p ≢ place → SameAt (cleared b place) b p
   unfolding cleared
-  cleared-elsewhere p n = (unmarked-elsewhere (b .taken) place p word-here n, written-elsewhere b (unmarked (b .taken) place) place emptyRaw p n)
+  cleared-elsewhere p n = (unmarked-elsewhere (b .taken) place p word-here n, written-elsewhere b (unmarked (b .taken) place) place emptyValues p n)
 
   pub cleared-sized : Sized (cleared b place)
   unfolding cleared
-  cleared-sized = written-sized b (unmarked (b .taken) place) place emptyRaw sized (unmarked-length (b .taken) place ∙ sized .taken)
+  cleared-sized = written-sized b (unmarked (b .taken) place) place emptyValues sized (unmarked-length (b .taken) place ∙ sized .taken)

@@ -7,7 +7,7 @@ use lib.ListN.{getD, set, replicate}
 use Rattle.terms.specs.Bounds.{places}
 use Rattle.terms.specs.Orders.{sideNumber, validityNumber, limitNumber, limitFrom}
 use Rattle.terms.specs.declared.orders.{Side.Side, Side.the-variants.Buy, Side.the-variants.Sell, Validity.Validity, Validity.the-variants.AtOpening, Validity.the-variants.AtClose, Validity.the-variants.Day, Validity.the-variants.LaterDay, Order.Order}
-use Rattle.book.specs.declared.Book.{Book}
+use Rattle.book.specs.declared.{Book.Book, Values.Values}
 use Rattle.places.specs.Places.{marked, unmarked}
 
 -- sides, validities and limits stand under their numbers of 01
@@ -18,16 +18,8 @@ abbrev pub validityFrom : ℕ → Validity
 validityFrom x = cond (eqb x 1) AtOpening (cond (eqb x 2) AtClose (cond (eqb x 3) Day LaterDay))
 
 -- what the columns hold at a place
-pub record Raw : Type 0 where
-  pub number : ℕ
-  pub member : ℕ
-  pub side : ℕ
-  pub validity : ℕ
-  pub left : ℕ
-  pub limit : ℕ
-
-abbrev pub rawAt : Book → ℕ → Raw
-rawAt b place = record {
+abbrev pub valuesAt : Book → ℕ → Values
+valuesAt b place = record {
   number = getD (b .number) place 0;
   member = getD (b .member) place 0;
   side = getD (b .side) place 0;
@@ -37,8 +29,8 @@ rawAt b place = record {
 }
 
 -- an order as the columns hold it, and back
-abbrev pub rawOf : Order → Raw
-rawOf o = record {
+abbrev pub valuesOf : Order → Values
+valuesOf o = record {
   number = o .number;
   member = o .member;
   side = sideNumber (o .side);
@@ -47,7 +39,7 @@ rawOf o = record {
   limit = limitNumber (o .limit);
 }
 
-abbrev pub orderFrom : Raw → Order
+abbrev pub orderFrom : Values → Order
 orderFrom r = record {
   number = r .number;
   member = r .member;
@@ -59,11 +51,11 @@ orderFrom r = record {
 
 -- the order at a place
 abbrev pub orderAt : Book → ℕ → Order
-orderAt b place = orderFrom (rawAt b place)
+orderAt b place = orderFrom (valuesAt b place)
 
 -- the empty values
-abbrev pub emptyRaw : Raw
-emptyRaw = record { number = 0; member = 0; side = 0; validity = 0; left = 0; limit = 0 }
+abbrev pub emptyValues : Values
+emptyValues = record { number = 0; member = 0; side = 0; validity = 0; left = 0; limit = 0 }
 
 -- every place free, and the empty value 0 in every column
 abbrev pub emptyBook : Book
@@ -78,7 +70,7 @@ emptyBook = record {
 }
 
 -- the book with other words, and other values at a place
-abbrev pub written : Book → List ℕ → ℕ → Raw → Book
+abbrev pub written : Book → List ℕ → ℕ → Values → Book
 written b words place r = record {
   taken = words;
   number = set (b .number) place (r .number);
@@ -91,8 +83,8 @@ written b words place r = record {
 
 -- the book with an order at a place
 unfoldable pub stored : Book → ℕ → Order → Book
-stored b place o = written b (marked (b .taken) place) place (rawOf o)
+stored b place o = written b (marked (b .taken) place) place (valuesOf o)
 
 -- the book with a place free, written back to the empty values
 unfoldable pub cleared : Book → ℕ → Book
-cleared b place = written b (unmarked (b .taken) place) place emptyRaw
+cleared b place = written b (unmarked (b .taken) place) place emptyValues

@@ -15,7 +15,7 @@ use Rattle.terms.specs.declared.orders.{Limit.Limit, Limit.the-variants.Unlimit
 use Rattle.book.specs.declared.Book.{Book}
 use Rattle.places.specs.Places.{isTaken}
 use Rattle.places.specs.Words.{zeros-free}
-use Rattle.book.specs.Columns.{rawAt, rawOf, orderFrom, orderAt, emptyRaw, emptyBook, stored, cleared}
+use Rattle.book.specs.Columns.{valuesAt, valuesOf, orderFrom, orderAt, emptyValues, emptyBook, stored, cleared}
 use Rattle.book.specs.Changes.{Sized, SameAt, stored-taken, stored-raw, stored-order, stored-elsewhere, stored-sized, cleared-free, cleared-raw, cleared-elsewhere, cleared-sized}
 
 -- an order that may rest: its number among those given, its other fields in range, its limit a multiple of the step
@@ -28,8 +28,8 @@ pub record SoundOrder (step given : ℕ) (o : Order) : Type 0 where
 
 -- a free place holds the empty values; a taken one holds an order that may rest, in the numbers of 01
 pub record SoundPlace (step given : ℕ) (b : Book) (p : ℕ) : Type 0 where
-  pub free : isTaken (b .taken) p ≡ false → rawAt b p ≡ emptyRaw
-  pub coded : isTaken (b .taken) p ≡ true → rawOf (orderAt b p) ≡ rawAt b p
+  pub free : isTaken (b .taken) p ≡ false → valuesAt b p ≡ emptyValues
+  pub coded : isTaken (b .taken) p ≡ true → valuesOf (orderAt b p) ≡ valuesAt b p
   pub rests : isTaken (b .taken) p ≡ true → SoundOrder step given (orderAt b p)
 
 pub record SoundBook (step given : ℕ) (b : Book) : Type 0 where
@@ -88,7 +88,7 @@ module _ (step given later : ℕ) (wait : given ≤ later) (b c : Book) (sound :
   elsewhere : (p : ℕ) → p < places → p ≢ place → SoundPlace step later c p
   elsewhere p h n = record {
     free = λ e. same p n .1 ∙ sound .each p h .free (sym (same p n .0) ∙ e);
-    coded = λ e. ap rawOf (order-before p n) ∙ sound .each p h .coded (taken-before p n e) ∙ sym (same p n .1);
+    coded = λ e. ap valuesOf (order-before p n) ∙ sound .each p h .coded (taken-before p n e) ∙ sym (same p n .1);
     rests = λ e. rw (order-before p n) (later-order step given later wait (orderAt b p) (sound .each p h .rests (taken-before p n e)));
   }
 
@@ -120,7 +120,7 @@ stored-sound step given b sound place here o above good =
     changed-sound step given (o .number) (omega arith) b (stored b place o) sound place (stored-sized b (sound .sized) place here o) (stored-elsewhere b (sound .sized) place here o)
     (record {
       free = λ e. absurd (true≢false (sym (stored-taken b (sound .sized) place here o) ∙ e));
-      coded = λ e. ap rawOf back ∙ sym (stored-raw b (sound .sized) place here o);
+      coded = λ e. ap valuesOf back ∙ sym (stored-raw b (sound .sized) place here o);
       rests = λ e. rw back good;
     })
     (λ p n h e f i. let least = sound .each p h .rests e .given-already in let same = i ∙ ap (λ (x : Order). x .number) back in omega arith)

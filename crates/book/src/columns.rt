@@ -1,10 +1,9 @@
 // Columns: how an order stands at a place, and storing, clearing and finding one.
 use crate::Book;
+use crate::Values;
 use places::WORD_PLACES;
 use places::WORDS;
 use places::bit_of;
-use places::marked;
-use places::unmarked;
 use terms::Limit;
 use terms::Order;
 use terms::Place;
@@ -12,7 +11,8 @@ use terms::Side;
 use terms::Validity;
 ghost use mathlib.Core.Path.{_≡_};
 ghost use Prim.Native.Nat.{_<_, _≤_, _+_};
-ghost use Rattle.book.specs.Columns.{sideFrom, validityFrom, orderAt, emptyBook, stored, cleared};
+ghost use lib.ListN.{set};
+ghost use Rattle.book.specs.Columns.{sideFrom, validityFrom, valuesOf, orderAt, emptyBook};
 ghost use Rattle.book.specs.Groups.{hasNumber};
 ghost use Rattle.book.specs.Resting.{placeIn};
 ghost use Rattle.terms.specs.Bounds.{places};
@@ -39,6 +39,45 @@ fn validity_from(x: u8) -> Validity
     }
 }
 
+// An order as the columns hold it.
+pub fn values_of(o: Order) -> Values
+    ensures { λ r. ⌜ r ≡ valuesOf o ⌝ }
+{
+    let side = o.side;
+    let validity = o.validity;
+    let limit = o.limit;
+    Values {
+        number: o.number,
+        member: o.member,
+        side: side.number(),
+        validity: validity.number(),
+        left: o.left,
+        limit: limit.number(),
+    }
+}
+
+// A store in a column that is lent, for each width.
+pub fn put32(column: &mut [u32; Place::COUNT], place: usize, x: u32)
+    requires { ⌜ place < places ⌝ }
+    ensures { λ _. ⌜ now (column .exit) ≡ set (now (column .entry)) place x ⌝ }
+{
+    column[place] = x;
+}
+
+pub fn put16(column: &mut [u16; Place::COUNT], place: usize, x: u16)
+    requires { ⌜ place < places ⌝ }
+    ensures { λ _. ⌜ now (column .exit) ≡ set (now (column .entry)) place x ⌝ }
+{
+    column[place] = x;
+}
+
+pub fn put8(column: &mut [u8; Place::COUNT], place: usize, x: u8)
+    requires { ⌜ place < places ⌝ }
+    ensures { λ _. ⌜ now (column .exit) ≡ set (now (column .entry)) place x ⌝ }
+{
+    column[place] = x;
+}
+
 impl Book {
     pub fn empty() -> Book
         ensures { λ r. ⌜ r ≡ emptyBook ⌝ }
@@ -52,40 +91,6 @@ impl Book {
             left: [0u32; Place::COUNT],
             limit: [0u32; Place::COUNT],
         }
-    }
-
-    pub fn stored(mut self, place: usize, o: Order) -> Book
-        requires { ⌜ place < places ⌝ }
-        ensures { λ r. ⌜ r ≡ stored self place o ⌝ }
-    {
-        let side = o.side;
-        let validity = o.validity;
-        let limit = o.limit;
-        let taken = self.taken;
-        self.taken = marked(taken, place);
-        self.number[place] = o.number;
-        self.member[place] = o.member;
-        self.side[place] = side.number();
-        self.validity[place] = validity.number();
-        self.left[place] = o.left;
-        self.limit[place] = limit.number();
-        self
-    }
-
-    // The place goes back to the empty values.
-    pub fn cleared(mut self, place: usize) -> Book
-        requires { ⌜ place < places ⌝ }
-        ensures { λ r. ⌜ r ≡ cleared self place ⌝ }
-    {
-        let taken = self.taken;
-        self.taken = unmarked(taken, place);
-        self.number[place] = 0;
-        self.member[place] = 0;
-        self.side[place] = 0;
-        self.validity[place] = 0;
-        self.left[place] = 0;
-        self.limit[place] = 0;
-        self
     }
 
     pub fn order_at(self, place: usize) -> Order

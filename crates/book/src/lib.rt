@@ -3,6 +3,10 @@
 mod columns;
 
 pub use columns::place_of;
+pub use columns::put8;
+pub use columns::put16;
+pub use columns::put32;
+pub use columns::values_of;
 use places::WORDS;
 use terms::Place;
 
@@ -14,4 +18,14 @@ pub struct Book {
     pub validity: [u8; Place::COUNT],
     pub left: [u32; Place::COUNT],
     pub limit: [u32; Place::COUNT],
+}
+
+// What the columns hold at a place.
+pub struct Values {
+    pub number: u32,
+    pub member: u16,
+    pub side: u8,
+    pub validity: u8,
+    pub left: u32,
+    pub limit: u32,
 }

@@ -2,6 +2,7 @@
 use terms::Place;
 ghost use mathlib.Core.Path.{_≡_};
 ghost use Prim.Native.Nat.{_<_, _≤_};
+ghost use lib.ListN.{set};
 ghost use Rattle.places.specs.Places.{bit, total, lowestFree, countTaken, withBit, withoutBit, marked as Places·marked, unmarked as Places·unmarked};
 ghost use Rattle.places.specs.Words.{LowClear};
 ghost use Rattle.terms.specs.Bounds.{places};
@@ -59,7 +60,7 @@ pub fn count_taken(taken: [u64; WORDS]) -> usize
     n
 }
 
-fn with_bit(word: u64, k: usize) -> u64
+pub fn with_bit(word: u64, k: usize) -> u64
     requires { ⌜ k < 64 ⌝ }
     ensures { λ r. ⌜ r ≡ withBit k word ⌝ }
 {
@@ -70,7 +71,7 @@ fn with_bit(word: u64, k: usize) -> u64
     }
 }
 
-fn without_bit(word: u64, k: usize) -> u64
+pub fn without_bit(word: u64, k: usize) -> u64
     requires { ⌜ k < 64 ⌝ }
     ensures { λ r. ⌜ r ≡ withoutBit k word ⌝ }
 {
@@ -79,6 +80,14 @@ fn without_bit(word: u64, k: usize) -> u64
     } else {
         word
     }
+}
+
+// A word stored in words that are lent.
+pub fn put_word(words: &mut [u64; WORDS], j: usize, word: u64)
+    requires { ⌜ j < 8 ⌝ }
+    ensures { λ _. ⌜ now (words .exit) ≡ set (now (words .entry)) j word ⌝ }
+{
+    words[j] = word;
 }
 
 pub fn marked(mut taken: [u64; WORDS], place: usize) -> [u64; WORDS]

@@ -17,7 +17,8 @@ use Rattle.terms.specs.Orders.{sideNumber, validityNumber, limitFrom, isLegal}
 use Rattle.terms.specs.declared.orders.{Side.Side, Side.the-variants.Buy, Side.the-variants.Sell, Auction.Auction, Auction.the-variants.Opening, Auction.the-variants.Closing, Validity.Validity, Validity.the-variants.AtOpening, Validity.the-variants.AtClose, Validity.the-variants.Day, Validity.the-variants.LaterDay, Order.Order}
 use Rattle.book.specs.declared.Book.{Book}
 use Rattle.places.specs.Places.{isTaken}
-use Rattle.book.specs.Columns.{sideFrom, validityFrom, Raw, orderAt}
+use Rattle.book.specs.Columns.{sideFrom, validityFrom, orderAt}
+use Rattle.book.specs.declared.Values.{Values}
 use Rattle.book.specs.Resting.{restingAt, restingTo, resting}
 use Rattle.book.specs.Sound.{SoundBook}
 use Rattle.queue.specs.Sides.{sameSide, allows, isUnlimited}
@@ -129,10 +130,10 @@ module _ (step given : ℕ) (b : Book) (sound : SoundBook step given b) (enough 
     taken-stands : (p : ℕ) → p < places → isTaken (b .taken) p ≡ true → stands p ≡ (onSide s (orderAt b p) && part (orderAt b p))
     taken-stands p here taken =
         let e = sound .each p here .coded taken in
-        coded-stands s a (getD (b .side) p 0) (getD (b .validity) p 0) (ap (λ (r : Raw). r .side) e) (ap (λ (r : Raw). r .validity) e)
+        coded-stands s a (getD (b .side) p 0) (getD (b .validity) p 0) (ap (λ (r : Values). r .side) e) (ap (λ (r : Values). r .validity) e)
 
     free-stands : (p : ℕ) → p < places → isTaken (b .taken) p ≡ false → stands p ≡ false
-    free-stands p here free = ap (λ (x : ℕ). standsAs s a x (getD (b .validity) p 0)) (ap (λ (r : Raw). r .side) (sound .each p here .free free)) ∙ zero-stands s a (getD (b .validity) p 0)
+    free-stands p here free = ap (λ (x : ℕ). standsAs s a x (getD (b .validity) p 0)) (ap (λ (r : Values). r .side) (sound .each p here .free free)) ∙ zero-stands s a (getD (b .validity) p 0)
 
     stands-taken : (p : ℕ) → p < places → stands p ≡ true → isTaken (b .taken) p ≡ true
     stands-taken p here e = go (isTaken (b .taken) p) refl

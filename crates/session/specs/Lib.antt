@@ -4,6 +4,7 @@ pub mod Auctions
 pub mod Queues
 pub mod Sound
 pub mod Calls
+pub mod Changes
 pub mod QueueCalls
 pub mod AuctionCalls
 pub mod SoundAfter

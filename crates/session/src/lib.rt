@@ -1,14 +1,17 @@
 // A session for one security: phases and the seven public calls, in the words of 01. A session goes in by value and
 // comes back by value.
 mod auctions;
+mod changes;
 
 use book::Book;
+pub use changes::Change;
+pub use changes::Effect;
+pub use changes::delete_effect;
+pub use changes::order_effect;
 use refusals::Phase;
 use terms::Auction;
 use terms::AuctionMade;
 use terms::Entry;
-use terms::Order;
-use terms::OrderMade;
 use terms::Parameters;
 use terms::ParametersMade;
 use terms::Place;
@@ -138,46 +141,25 @@ impl Session {
     {
         let phase = self.phase;
         let parameters = self.parameters;
-        let taken = self.book.taken;
-        let answer = refusals::order_refusal(
+        let effect = order_effect(
             phase,
             parameters,
             self.reference,
             self.given,
-            places::count_taken(taken),
+            &self.book.taken,
             e,
         );
-        if answer != 0 {
-            return Entered {
+        match effect {
+            Effect::Refused(answer) => Entered {
                 answer,
                 number: 0,
                 session: self,
-            };
-        }
-        let number = self.given + 1;
-        let OrderMade::Good(o) = Order::new(number, e) else {
-            // Never: an entry that is not refused has its fields in range.
-            return Entered {
-                answer: 1,
-                number: 0,
-                session: self,
-            };
-        };
-        let old = self.book;
-        let place = places::lowest_free(taken);
-        let book = old.stored(place, o);
-        let session = Session {
-            phase,
-            delayed: self.delayed,
-            parameters,
-            reference: self.reference,
-            given: number,
-            book,
-        };
-        Entered {
-            answer: 0,
-            number,
-            session,
+            },
+            Effect::Done(c) => Entered {
+                answer: 0,
+                number: c.given,
+                session: self.changed(c),
+            },
         }
     }
 
@@ -187,32 +169,25 @@ impl Session {
         ensures { λ r. ⌜ r ≡ Entry·deleted self number member ⌝ }
     {
         let phase = self.phase;
-        let place = book::place_of(
+        let effect = delete_effect(
+            phase,
+            self.given,
             &self.book.taken,
             &self.book.number,
             &self.book.member,
             number,
             member,
         );
-        let answer = refusals::delete_refusal(phase, number, member, place);
-        if answer != 0 {
-            return Deleted {
+        match effect {
+            Effect::Refused(answer) => Deleted {
                 answer,
                 session: self,
-            };
+            },
+            Effect::Done(c) => Deleted {
+                answer: 0,
+                session: self.changed(c),
+            },
         }
-        let parameters = self.parameters;
-        let old = self.book;
-        let book = old.cleared(place);
-        let session = Session {
-            phase,
-            delayed: self.delayed,
-            parameters,
-            reference: self.reference,
-            given: self.given,
-            book,
-        };
-        Deleted { answer: 0, session }
     }
 
     // Auction: refusals 1, 2, 4, 12. The trades go to the list, four numbers each, from its front.

@@ -1,6 +1,7 @@
 -- The transcript: a file's records run from a fresh session, and what is printed.
 pub mod Transcript
 pub mod Steps
+pub mod Doings
 pub mod Lent
 pub mod Told
 pub mod Fronts

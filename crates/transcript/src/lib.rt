@@ -2,10 +2,13 @@
 mod steps;
 mod tell;
 
+use lines::Answer;
 use records::Record;
+use session::Change;
 use session::Session;
 pub use tell::told;
 pub use tell::transcribed;
+use terms::Parameters;
 
 // A session after a record whose lines are written, and the place behind them.
 pub struct Stepped {
@@ -34,4 +37,12 @@ pub struct Telling {
     pub place: usize,
     pub at: usize,
     pub stop: Stop,
+}
+
+// What a record does: an answer with nothing or with a change at a place, or a call by value.
+pub enum Doing {
+    Refused(Answer),
+    Done(Answer, Change),
+    Start(Parameters),
+    Auction(u8),
 }

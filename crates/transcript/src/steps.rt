@@ -1,24 +1,90 @@
 // What a record does: the call that it asks for, and its lines.
+use crate::Doing;
 use crate::Stepped;
 use lines::Answer;
 use lines::line_of;
 use lines::trade_lines;
-use records::Deletion;
+use places::WORDS;
 use records::Record;
+use refusals::Phase;
+use session::Effect;
 use session::Session;
-use terms::Entry;
+use session::delete_effect;
+use session::order_effect;
 use terms::Parameters;
+use terms::Place;
 ghost use mathlib.Core.Path.{_≡_};
 ghost use Prim.Native.Nat.{_+_, _≤_};
 ghost use lib.ListN.{length};
 ghost use Rattle.terms.specs.Bounds.{tradeListLength};
-ghost use Rattle.records.specs.declared.Record.the-variants.{Start, Order, Delete, Auction as Auction·record};
+ghost use Rattle.records.specs.declared.Record.the-variants.{Start, Auction as Auction·record};
 ghost use Rattle.session.specs.Sound.{Sound};
 ghost use Rattle.lines.specs.Lengths.{lineRoom};
 ghost use Rattle.transcript.specs.Transcript.{step};
 ghost use Rattle.transcript.specs.Steps.{recordRoom, WroteStep};
+ghost use Rattle.transcript.specs.Doings.{orderDoing, deleteDoing, doingOf};
 
-fn start_written(session: Session, p: Parameters, place: u64, out: &mut [u8], at: usize) -> Stepped
+fn order_doing(effect: Effect) -> Doing
+    ensures { λ r. ⌜ r ≡ orderDoing effect ⌝ }
+{
+    match effect {
+        Effect::Refused(answer) => Doing::Refused(Answer::Order(answer, 0)),
+        Effect::Done(c) => Doing::Done(Answer::Order(0, c.given), c),
+    }
+}
+
+fn delete_doing(effect: Effect) -> Doing
+    ensures { λ r. ⌜ r ≡ deleteDoing effect ⌝ }
+{
+    match effect {
+        Effect::Refused(answer) => Doing::Refused(Answer::Delete(answer)),
+        Effect::Done(c) => Doing::Done(Answer::Delete(0), c),
+    }
+}
+
+// What a record does, from the parts of the session that decide it.
+pub(crate) fn doing_of<'a>(
+    asked: Record,
+    phase: Phase,
+    parameters: Parameters,
+    reference: u32,
+    given: u32,
+    taken: &'a [u64; WORDS],
+    numbers: &'a [u32; Place::COUNT],
+    members: &'a [u16; Place::COUNT],
+) -> Doing
+    ensures { λ r. ⌜ r ≡ doingOf asked phase parameters reference given (now (taken .entry)) (now (numbers .entry)) (now (members .entry)) ⌝ }
+{
+    match asked {
+        Record::Start(p) => Doing::Start(p),
+        Record::Order(e) => order_doing(order_effect(
+            phase,
+            parameters,
+            reference,
+            given,
+            taken,
+            e,
+        )),
+        Record::Delete(d) => delete_doing(delete_effect(
+            phase,
+            given,
+            taken,
+            numbers,
+            members,
+            d.number,
+            d.member,
+        )),
+        Record::Auction(which) => Doing::Auction(which),
+    }
+}
+
+pub(crate) fn start_written(
+    session: Session,
+    p: Parameters,
+    place: u64,
+    out: &mut [u8],
+    at: usize,
+) -> Stepped
     requires { ⌜ Sound session × (at + lineRoom ≤ length (now out)) ⌝ }
     ensures { λ r. ⌜ WroteStep place (now (out .entry)) (now (out .exit)) at r (step session (Start p)) ⌝ }
 {
@@ -31,34 +97,8 @@ fn start_written(session: Session, p: Parameters, place: u64, out: &mut [u8], at
     }
 }
 
-fn order_written(session: Session, e: Entry, place: u64, out: &mut [u8], at: usize) -> Stepped
-    requires { ⌜ Sound session × (at + lineRoom ≤ length (now out)) ⌝ }
-    ensures { λ r. ⌜ WroteStep place (now (out .entry)) (now (out .exit)) at r (step session (Order e)) ⌝ }
-{
-    let r = session.order(e);
-    let end = line_of(out, at, place, Answer::Order(r.answer, r.number));
-    let next = r.session;
-    Stepped {
-        session: next,
-        at: end,
-    }
-}
-
-fn delete_written(session: Session, d: Deletion, place: u64, out: &mut [u8], at: usize) -> Stepped
-    requires { ⌜ Sound session × (at + lineRoom ≤ length (now out)) ⌝ }
-    ensures { λ r. ⌜ WroteStep place (now (out .entry)) (now (out .exit)) at r (step session (Delete d)) ⌝ }
-{
-    let r = session.delete(d.number, d.member);
-    let end = line_of(out, at, place, Answer::Delete(r.answer));
-    let next = r.session;
-    Stepped {
-        session: next,
-        at: end,
-    }
-}
-
 // The trades are read from the list that the auction wrote them to.
-fn auction_written(
+pub(crate) fn auction_written(
     session: Session,
     which: u8,
     list: &mut [u32],
@@ -77,25 +117,5 @@ fn auction_written(
     Stepped {
         session: next,
         at: end,
-    }
-}
-
-// A record answered, its line and those of its trades written.
-pub(crate) fn written(
-    session: Session,
-    asked: Record,
-    list: &mut [u32],
-    place: u64,
-    out: &mut [u8],
-    at: usize,
-) -> Stepped
-    requires { ⌜ Sound session × (length (now list) ≡ tradeListLength) × (at + recordRoom ≤ length (now out)) ⌝ }
-    ensures { λ r. ⌜ WroteStep place (now (out .entry)) (now (out .exit)) at r (step session asked) ⌝ }
-{
-    match asked {
-        Record::Start(p) => start_written(session, p, place, out, at),
-        Record::Order(e) => order_written(session, e, place, out, at),
-        Record::Delete(d) => delete_written(session, d, place, out, at),
-        Record::Auction(which) => auction_written(session, which, list, place, out, at),
     }
 }

@@ -1,12 +1,21 @@
 // The telling: the records of the bytes at hand answered one by one, their lines written into a lent buffer.
+use crate::Doing;
 use crate::Front;
 use crate::Stop;
 use crate::Telling;
-use crate::steps::written;
+use crate::steps::auction_written;
+use crate::steps::doing_of;
+use crate::steps::start_written;
+use book::put8;
+use book::put16;
+use book::put32;
 use lines::LINE_ROOM;
 use lines::TRADE_ROOM;
 use lines::end_line;
 use lines::fault_line;
+use lines::line_of;
+use places::WORD_PLACES;
+use places::put_word;
 use records::Read;
 use records::needs_more;
 use records::record_at;
@@ -63,11 +72,49 @@ fn records_told(
         match next {
             Front::Record(record, behind) => {
                 count += 1;
-                let r = written(present, record, list, count, out, at);
-                let later = r.session;
-                present = later;
-                at = r.at;
                 place = behind;
+                let phase = present.phase;
+                let parameters = present.parameters;
+                let doing = doing_of(
+                    record,
+                    phase,
+                    parameters,
+                    present.reference,
+                    present.given,
+                    &present.book.taken,
+                    &present.book.number,
+                    &present.book.member,
+                );
+                match doing {
+                    Doing::Refused(answer) => {
+                        at = line_of(out, at, count, answer);
+                    }
+                    Doing::Done(answer, c) => {
+                        let spot = c.place;
+                        let values = c.values;
+                        present.given = c.given;
+                        put_word(&mut present.book.taken, spot / WORD_PLACES, c.word);
+                        put32(&mut present.book.number, spot, values.number);
+                        put16(&mut present.book.member, spot, values.member);
+                        put8(&mut present.book.side, spot, values.side);
+                        put8(&mut present.book.validity, spot, values.validity);
+                        put32(&mut present.book.left, spot, values.left);
+                        put32(&mut present.book.limit, spot, values.limit);
+                        at = line_of(out, at, count, answer);
+                    }
+                    Doing::Start(p) => {
+                        let r = start_written(present, p, count, out, at);
+                        let later = r.session;
+                        present = later;
+                        at = r.at;
+                    }
+                    Doing::Auction(which) => {
+                        let r = auction_written(present, which, list, count, out, at);
+                        let later = r.session;
+                        present = later;
+                        at = r.at;
+                    }
+                }
             }
             Front::Stop(stop) => {
                 return Telling {

@@ -1,38 +1,42 @@
+use Rattle.session.specs.Changes.{deletedBy, deleted-by, delete-place}
 use mathlib.Core.Path.{sym, ap, _∙_}
-use Rattle.book.specs.Columns.{cleared}
-use Rattle.refusals.specs.Checks.{firstHit}
-use Rattle.session.specs.Calls.{delete-place, delete-rows, delete-room, delete-turned-down, delete-taken}
+use native.Mathlib.Omega.{arith}
 use borrow.Author.Needs.{needs}
 use Rattle.session.proofs.Session.delete.Statement.{statement}
 use Rattle.session.proofs.Session.delete.Tie as tie
 
-place-of-requires : tie.Need-place-of-requires
-place-of-requires c κs = search needs
+delete-effect-requires : tie.Need-delete-effect-requires
+delete-effect-requires c κs = search needs
 
-delete-refusal-requires : tie.Need-delete-refusal-requires
-delete-refusal-requires c κs = search needs
+enum-known-effect : tie.Need-enum-known-effect
+enum-known-effect c = search needs
+
+enum-known-effect-2 : tie.Need-enum-known-effect-2
+enum-known-effect-2 c = search needs
+
+changed-requires : tie.Need-changed-requires
+changed-requires c κs =
+    let a = c .before .before .before .before .before .before .before .before .args in
+    let s = a .t1 in
+    delete-place (s .phase) (s .given) (s .book .taken) (s .book .number) (s .book .member) (a .number) (a .member) (sym (c .before .before .before .delete-effect .ensures) ∙ c .before .effect2 .given .1)
 
 returns : tie.Need-returns
 returns c =
-    let a = c .before .before .before .before .before .before .before .args in
-    delete-turned-down (a .t1) (a .number) (a .member) (c .before .delete-refusal .ensures ∙ ap firstHit (delete-rows (a .t1) (a .number) (a .member) (c .before .before .place-of .ensures ∙ delete-place (a .t1) (a .number) (a .member)))) (c .if1 .taken)
-
-cleared-requires : tie.Need-cleared-requires
-cleared-requires c κs =
-    let a = c .before .before .before .before .before .before .before .before .before .args in
-    let place-of = c .before .before .before .before .place-of in
-    let delete-refusal = c .before .before .before .delete-refusal in
-    rw (place-of .ensures ∙ delete-place (a .t1) (a .number) (a .member)) (delete-room (a .t1) (a .number) (a .member) (sym (delete-refusal .ensures ∙ ap firstHit (delete-rows (a .t1) (a .number) (a .member) (place-of .ensures ∙ delete-place (a .t1) (a .number) (a .member)))) ∙ c .before .before .if1 .left))
+    let a = c .before .before .before .before .before .before .before .before .args in
+    ap (deletedBy (a .t1)) (sym (c .before .effect .given .1) ∙ c .before .before .before .delete-effect .ensures) ∙ deleted-by (a .t1) (a .number) (a .member)
 
 returns-2 : tie.Need-returns-2
 returns-2 c =
-    let a = c .before .before .before .before .before .before .before .before .before .before .args in
-    let place-of = c .before .before .before .before .before .place-of in
-    let delete-refusal = c .before .before .before .before .delete-refusal in
-    let if1 = c .before .before .before .if1 in
-    delete-taken (a .t1) (a .number) (a .member) (sym (delete-refusal .ensures ∙ ap firstHit (delete-rows (a .t1) (a .number) (a .member) (place-of .ensures ∙ delete-place (a .t1) (a .number) (a .member)))) ∙ if1 .left) (c .cleared .ensures ∙ ap (cleared (a .t1 .book)) (place-of .ensures ∙ delete-place (a .t1) (a .number) (a .member)))
+    let a = c .before .before .before .before .before .before .before .before .before .args in
+    rw (c .changed .ensures) (ap (deletedBy (a .t1)) (sym (c .before .before .effect2 .given .1) ∙ c .before .before .before .before .delete-effect .ensures) ∙ deleted-by (a .t1) (a .number) (a .member))
 
 pub delete-spec : {M : Type 1} → statement M
 delete-spec =
     tie.close
-    (tie.spec place-of-requires delete-refusal-requires returns cleared-requires returns-2)
+    (tie.spec
+    delete-effect-requires
+    enum-known-effect
+    enum-known-effect-2
+    changed-requires
+    returns
+    returns-2)

@@ -1,0 +1,125 @@
+// What an order and a deletion change, found from the parts of a session that decide it. Whoever holds a session stores it in place.
+use crate::Session;
+use book::Values;
+use book::put8;
+use book::put16;
+use book::put32;
+use places::WORD_PLACES;
+use places::WORDS;
+use places::put_word;
+use places::with_bit;
+use places::without_bit;
+use refusals::Phase;
+use terms::Entry;
+use terms::Order;
+use terms::OrderMade;
+use terms::Parameters;
+use terms::Place;
+ghost use mathlib.Core.Path.{_≡_};
+ghost use Prim.Native.Nat.{_<_};
+ghost use Rattle.terms.specs.Bounds.{places};
+ghost use Rattle.session.specs.Changes.{changed as Changes·changed, orderEffect, deleteEffect};
+
+// The last number given, a word of the places, and the values at a place.
+pub struct Change {
+    pub given: u32,
+    pub place: usize,
+    pub word: u64,
+    pub values: Values,
+}
+
+pub enum Effect {
+    Refused(u8),
+    Done(Change),
+}
+
+// Order: refusals 1, 2, 4, 5, 6, 7, 8, 9, 10. An accepted order takes the next number and the lowest free place.
+pub fn order_effect(
+    phase: Phase,
+    parameters: Parameters,
+    reference: u32,
+    given: u32,
+    taken: &[u64; WORDS],
+    e: Entry,
+) -> Effect
+    ensures { λ r. ⌜ r ≡ orderEffect phase parameters reference given (now (taken .entry)) e ⌝ }
+{
+    let words = *taken;
+    let answer = refusals::order_refusal(
+        phase,
+        parameters,
+        reference,
+        given,
+        places::count_taken(words),
+        e,
+    );
+    if answer != 0 {
+        return Effect::Refused(answer);
+    }
+    let number = given + 1;
+    let OrderMade::Good(o) = Order::new(number, e) else {
+        // Never: an entry that is not refused has its fields in range.
+        return Effect::Refused(1);
+    };
+    let place = places::lowest_free(words);
+    let word = with_bit(words[place / WORD_PLACES], place % WORD_PLACES);
+    Effect::Done(Change {
+        given: number,
+        place,
+        word,
+        values: book::values_of(o),
+    })
+}
+
+// Delete: refusals 1, 2, 11. The place is free at once.
+pub fn delete_effect<'a>(
+    phase: Phase,
+    given: u32,
+    taken: &'a [u64; WORDS],
+    numbers: &'a [u32; Place::COUNT],
+    members: &'a [u16; Place::COUNT],
+    number: u32,
+    member: u16,
+) -> Effect
+    ensures { λ r. ⌜ r ≡ deleteEffect phase given (now (taken .entry)) (now (numbers .entry)) (now (members .entry)) number member ⌝ }
+{
+    let place = book::place_of(taken, numbers, members, number, member);
+    let answer = refusals::delete_refusal(phase, number, member, place);
+    if answer != 0 {
+        return Effect::Refused(answer);
+    }
+    let word = without_bit(taken[place / WORD_PLACES], place % WORD_PLACES);
+    Effect::Done(Change {
+        given,
+        place,
+        word,
+        values: Values {
+            number: 0,
+            member: 0,
+            side: 0,
+            validity: 0,
+            left: 0,
+            limit: 0,
+        },
+    })
+}
+
+impl Session {
+    // By value; a loop that holds a session makes the same stores in its own.
+    pub(crate) fn changed(mut self, c: Change) -> Session
+        requires { ⌜ c .place < places ⌝ }
+        ensures { λ r. ⌜ r ≡ Changes·changed self c ⌝ }
+    {
+        let place = c.place;
+        let values = c.values;
+        self.given = c.given;
+        put_word(&mut self.book.taken, place / WORD_PLACES, c.word);
+        put32(&mut self.book.number, place, values.number);
+        put16(&mut self.book.member, place, values.member);
+        put8(&mut self.book.side, place, values.side);
+        put8(&mut self.book.validity, place, values.validity);
+        put32(&mut self.book.left, place, values.left);
+        put32(&mut self.book.limit, place, values.limit);
+        self
+    }
+}
