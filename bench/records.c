@@ -1,4 +1,5 @@
-// The session files of make bench, by a word: records mixed | full | opening | empty writes one to standard output.
+// The session files of make bench, by a word: records mixed | start | full | opening | empty writes one to standard output.
+// What `full` has more than `start` is orders only.
 #include <stdint.h>
 #include <stdio.h>
 #include <string.h>
@@ -131,6 +132,7 @@ static void mixed(void)
 int main(int words, char **word)
 {
     if (words == 2 && strcmp(word[1], "mixed") == 0) mixed();
+    else if (words == 2 && strcmp(word[1], "start") == 0) start();
     else if (words == 2 && strcmp(word[1], "full") == 0) full();
     else if (words == 2 && strcmp(word[1], "opening") == 0) full(), auction(OPENING);
     else return words != 2 || strcmp(word[1], "empty") != 0;

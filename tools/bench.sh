@@ -1,6 +1,6 @@
 #!/bin/sh
 # make bench: what the calls cost, as differences of runs of the crates entry_cost and auction_cost, each of which makes one call by its input;
-# then what the session program costs beside the same in plain C, bench/plain.c.
+# then what the session program costs beside the same in C, bench/strong.c and bench/plain.c.
 cd "$(dirname "$0")/.." || exit 1
 dir=$(mktemp -d) || exit 1
 trap 'rm -rf "$dir"' EXIT
@@ -76,42 +76,71 @@ compile() {
         "$lib/Scrt1.o" "$lib/crti.o" "$2.o" "$lib/libc.so.6" "$lib/crtn.o" -o "$2" || fail "$1 is not linked"
 }
 compile bench/records.c "$dir/records"
+compile bench/strong.c "$dir/strong"
 compile bench/plain.c "$dir/plain"
 compile bench/plain.c "$dir/sums" -DRUNNING_SUMS
 
-for file in empty mixed full opening; do
+for file in empty mixed start full opening; do
     x86 "$dir/records" "$file" >"$dir/$file" || fail "no session file $file"
     x86 target/bin/replay <"$dir/$file" >"$dir/lines" || fail "replay does not run $file"
-    for program in plain sums; do
+    for program in strong plain sums; do
         x86 "$dir/$program" <"$dir/$file" | cmp -s - "$dir/lines" || fail "$program and replay print different lines for $file"
     done
 done
 
-# cost PROGRAM: instructions and bytes moved for each of the 5,000 mixed records, then for the auction of a full book
+# cost ERMS PROGRAM: instructions and bytes moved for each of the 5,000 mixed records, for each of the 512 orders of a file of orders only,
+# then for the auction of a full book. ERMS: as count.sh takes it, or nothing.
 cost() {
-    empty=$(sh tools/count.sh "$1" "$dir/empty") || exit 1
-    mixed=$(sh tools/count.sh "$1" "$dir/mixed") || exit 1
-    full=$(sh tools/count.sh "$1" "$dir/full") || exit 1
-    opening=$(sh tools/count.sh "$1" "$dir/opening") || exit 1
-    echo "$(more "$empty" "$mixed") $(more "$full" "$opening")" |
-        awk '{ printf "%.0f %s %s %s\n", $1 / 5000, ($2 == "-") ? "-" : sprintf("%.0f", $2 / 5000), $3, $4 }'
+    for file in empty mixed start full opening; do
+        sh tools/count.sh ${1:+"$1"} "$2" "$dir/$file" >"$dir/$file.count" || exit 1
+    done
+    cat "$dir/empty.count" "$dir/mixed.count" "$dir/start.count" "$dir/full.count" "$dir/opening.count" | awk '
+        { n[NR] = $1; bytes[NR] = $2 }
+        function each(from, to, count) {
+            printf "%.0f %s ", (n[to] - n[from]) / count, bytes[to] == "-" ? "-" : sprintf("%.0f", (bytes[to] - bytes[from]) / count)
+        }
+        END { each(1, 2, 5000); each(3, 4, 512); each(4, 5, 1) }'
 }
-replay=$(cost target/bin/replay) || exit 1
-plain=$(cost "$dir/plain") || exit 1
-sums=$(cost "$dir/sums") || exit 1
-
-widest() { printf '%-28s %12s %12s %12s %12s\n' "$@"; }
+# line TITLE (COUNT BYTES)..: without the bytes where the C library has no string moves
+line() {
+    printf '%-28s' "$1"
+    shift
+    while [ $# -gt 0 ]; do
+        printf ' %12s' "$1"
+        [ "$erms" = --no-erms ] || printf ' %12s' "$2"
+        shift 2
+    done
+    echo
+}
 # ratio TITLE COST: the instructions of replay for one of the other's
 ratio() {
-    echo "$replay $2" | awk -v title="$1" '{ printf "%-28s %12.2f %12s %12.2f\n", title, $1 / $5, "", $3 / $7 }'
+    echo "$replay $2" | awk '{ printf "%.2f %.2f %.2f\n", $1 / $7, $3 / $9, $5 / $11 }' >"$dir/ratios"
+    read -r record order auction <"$dir/ratios"
+    line "$1" "$record" '' "$order" '' "$auction" ''
 }
-echo
-widest 'a session file' 'a record' 'bytes moved' 'an auction' 'bytes moved'
-# shellcheck disable=SC2086
-{
-    widest 'replay' $replay
-    widest 'plain C' $plain
-    widest 'C, running sums' $sums
+# files TITLE [ERMS]: the table of the session files
+files() {
+    erms=$2
+    replay=$(cost "$erms" target/bin/replay) || exit 1
+    strong=$(cost "$erms" "$dir/strong") || exit 1
+    plain=$(cost "$erms" "$dir/plain") || exit 1
+    sums=$(cost "$erms" "$dir/sums") || exit 1
+    echo
+    line "$1" 'a record' 'bytes moved' 'an order' 'bytes moved' 'an auction' 'bytes moved'
+    # shellcheck disable=SC2086
+    {
+        line 'replay' $replay
+        line 'strong C' $strong
+        line 'plain C' $plain
+        line 'C, running sums' $sums
+    }
+    ratio 'replay / strong C' "$strong"
+    ratio 'replay / plain C' "$plain"
 }
-ratio 'replay / plain C' "$plain"
-ratio 'replay / C, running sums' "$sums"
+if [ -n "$emulator" ]; then
+    files 'session files, with erms' --erms
+    files 'session files, without erms' --no-erms
+else
+    echo "bench: no qemu-x86_64: the session files are counted once, with the C library's copies as they are here" >&2
+    files 'session files'
+fi

@@ -1,7 +1,11 @@
 #!/bin/sh
-# count.sh PROGRAM [STDIN]: prints how many instructions an x86-64 program executes, a string move (rep movs, rep stos)
-# counted once, and how many bytes string moves moved. A run's start-up is in both: subtract another run's.
-[ $# -ge 1 ] || { sed -n 2,3p "$0"; exit 2; }
+# count.sh [--erms | --no-erms] PROGRAM [STDIN]: prints how many instructions an x86-64 program executes, a string move (rep movs, rep stos)
+# counted once, and how many bytes string moves moved. A run's start-up is in both: subtract another run's. On a machine with erms, fast string
+# moves, the C library copies by these from a size on that it takes from the machine, too: the bytes tell whether it did. Without it, never.
+# With neither word the machine is the emulator's usual one.
+erms=
+case $1 in --erms | --no-erms) erms=$1; shift ;; esac
+[ $# -ge 1 ] || { sed -n 2,5p "$0"; exit 2; }
 program=$1
 in=${2:-/dev/null}
 fail() {
@@ -20,6 +24,7 @@ else
 fi
 
 if [ -z "$emulator" ]; then
+    [ -z "$erms" ] || fail "no qemu-x86_64, in the kit or on the PATH: nothing here can be told $erms"
     [ "$machine" = x86_64 ] || fail "no qemu-x86_64, in the kit or on the PATH: nothing here runs an x86-64 program"
     command -v valgrind >/dev/null || fail "neither qemu-x86_64 nor valgrind is on the PATH: nothing here counts instructions"
     echo "count: by valgrind, for want of qemu-x86_64: each turn of a string move counts, and its bytes are not told apart" >&2
@@ -28,6 +33,18 @@ if [ -z "$emulator" ]; then
     echo "$n -"
     exit
 fi
+
+case $erms in
+--erms) set -- -cpu max "$@" ;;
+--no-erms)
+    # fsrm is the same for short moves; an emulator may not know it.
+    cpu=max,-erms
+    flags=" $("$emulator" -cpu help | tr '\n' ' ') "
+    case $flags in *' erms '*) ;; *) fail "the emulator $emulator has no erms to leave out" ;; esac
+    case $flags in *' fsrm '*) cpu=$cpu,-fsrm ;; esac
+    set -- -cpu "$cpu" "$@"
+    ;;
+esac
 
 # One line an instruction, 'Trace 0: HOST [00000000/PC/FLAGS/..]', and by the million: through a pipe, not a file.
 dir=$(mktemp -d) || exit 1
