@@ -5,5 +5,6 @@ pub mod Resting
 pub mod Groups
 pub mod Rests
 pub mod Sound
+pub mod Hints
 pub mod Additions
 pub mod Changed

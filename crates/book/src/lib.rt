@@ -1,12 +1,17 @@
 // The book: 512 places shared by both sides, as columns of numbers, and eight words that say which places are taken
 // (01 "Numbers and their bounds"). A free place holds the empty value 0 in every column.
 mod columns;
+mod hints;
 
 pub use columns::place_of;
 pub use columns::put8;
 pub use columns::put16;
 pub use columns::put32;
 pub use columns::values_of;
+pub use hints::HINTS;
+pub use hints::hint;
+pub use hints::hint_all;
+pub use hints::place_by_hint;
 use places::WORDS;
 use terms::Place;
 

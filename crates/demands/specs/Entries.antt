@@ -21,8 +21,7 @@ use Rattle.book.specs.Additions.{stored-resting, cleared-resting}
 use Rattle.session.specs.declared.{Session.Session}
 use Rattle.refusals.specs.Checks.{firstHit}
 use Rattle.session.specs.Entry.{orderChecks, entered, enteredSession, deleteChecks, deleted, deletedSession}
-use Rattle.session.specs.Sound.{Sound, accepted, asked-sound}
-use Rattle.session.specs.Calls.{delete-room}
+use Rattle.session.specs.Sound.{Sound, accepted, asked-sound, delete-room}
 
 -- B3. The lowest free place is the first whose bit is 0, and the count is that of the taken places.
 pub record LowestFree (words : List ℕ) : Type 0 where

@@ -9,8 +9,8 @@ use borrow.Author.Tests.{lt-ltb, le-ltb, ltb-true, ltb-false}
 use lib.Dec.{ltb}
 use lib.ListN.{length, set, drop, length-append, length-set}
 use lib.Seq.{drop-length, drop-at}
-use Rattle.lines.specs.Text.{digit, digits, decimal}
-use Rattle.lines.specs.Put.{put, put-nothing, put-before}
+use Rattle.lines.specs.Text.{digit, pair, digits, decimal}
+use Rattle.lines.specs.Put.{put, Wrote, put-nothing, put-before, put-then}
 
 -- the last n digits of a number, zeros in front where it has fewer
 unfoldable pub tens : ℕ → ℕ → List ℕ
@@ -22,13 +22,24 @@ unfolding tens
 tens-length zero x = refl
 tens-length (suc n) x = omega (arith, length-append (tens n (x / 10)) (digit (x % 10) ∷ []), tens-length n (x / 10))
 
-digits-small : (n x : ℕ) → x < 10 → digits (suc n) x ≡ digit x ∷ []
+pub digits-small : (n x : ℕ) → x < 10 → digits (suc n) x ≡ digit x ∷ []
 unfolding digits
 digits-small n x h = rw (lt-ltb x 10 h)
 
 digits-large : (n x : ℕ) → 10 ≤ x → digits (suc n) x ≡ digits n (x / 10) ++ (digit (x % 10) ∷ [])
 unfolding digits
 digits-large n x h = rw (le-ltb x 10 h)
+
+pub digits-pair : (n x : ℕ) → 10 ≤ x → x < 100 → digits (suc (suc n)) x ≡ pair x
+digits-pair n x low high = rw (digits-large (suc n) x low, digits-small n (x / 10) (omega arith))
+
+-- a pair taken off: the digits of the hundreds are left
+digits-hundreds : (n x : ℕ) → 100 ≤ x → digits (suc (suc n)) x ≡ digits n (x / 100) ++ pair (x % 100)
+digits-hundreds n x h =
+    let hundreds : x / 10 / 10 ≡ x / 100 = omega arith in
+    let first : x / 10 % 10 ≡ x % 100 / 10 = omega arith in
+    let second : x % 10 ≡ x % 100 % 10 = omega arith in
+    rw (digits-large (suc n) x (omega arith), digits-large n (x / 10) (omega arith), append-assoc, hundreds, first, second)
 
 digits-none : (x : ℕ) → digits 0 x ≡ []
 unfolding digits
@@ -74,6 +85,12 @@ digits-length (suc n) x = go (ltb x 10) refl (digits-length n (x / 10))
 pub decimal-length : (x : ℕ) → length (decimal x) ≤ 20
 decimal-length x = digits-length 20 x
 
+-- the hundreds of a number, then a pair
+pub hundreds-then : (old one two : List ℕ) (at p r x : ℕ) (hundreds : List ℕ) → at ≤ length old → 100 ≤ x → digits 18 (x / 100) ≡ hundreds
+    → Wrote old one at p hundreds → Wrote one two p r (pair (x % 100)) → Wrote old two at r (decimal x)
+hundreds-then old one two at p r x hundreds room h e first second =
+    rw (digits-hundreds 18 x h, e) (put-then old one two at p r hundreds (pair (x % 100)) room first second)
+
 -- after n - 1 divisions by ten, each of which takes a digit off
 abbrev pub Counted : ℕ → ℕ → ℕ → Type 0
 Counted x n rest = (n ≤ 20) × (rest < 10 ^ (21 - n)) × (length (digits (21 - n) rest) + n ≡ length (decimal x) + 1)
@@ -116,7 +133,8 @@ shown-start x at n old room e = rw e (
   rw (drop-length (decimal x)) (append-nil (tens (length (decimal x)) x) ∙ sym (digits-tens 20 x)),
 )
 
-pub shown-step : (x at i j rest : ℕ) (old out : List ℕ) → at + 20 ≤ length old → i ≡ j + 1 → Shown x at old out i rest → Shown x at old (set out (at + j) (48 + rest % 10)) j (rest / 10)
+pub shown-step : (x at i j rest : ℕ) (old out : List ℕ) → at + 20 ≤ length old → i ≡ j + 1 → Shown x at old out i rest
+    → Shown x at old (set out (at + j) (48 + rest % 10)) j (rest / 10)
 shown-step x at i j rest old out room e s = (
   omega (arith, e, s .0),
   length-set out (at + j) (48 + rest % 10) ∙ s .1,

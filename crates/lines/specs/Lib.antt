@@ -3,6 +3,7 @@ pub mod Text
 pub mod Put
 pub mod Decimal
 pub mod Line
+pub mod Placed
 pub mod Texts
 pub mod Lengths
 pub mod Trades

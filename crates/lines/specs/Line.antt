@@ -2,7 +2,7 @@
 use Prim.Native.Nat.{ℕ}
 use mathlib.Core.List.{List, [], _∷_, _++_}
 use Rattle.trades.specs.declared.{Trade.Trade}
-use Rattle.lines.specs.declared.{Answer.Answer}
+use Rattle.lines.specs.declared.{Answer.Answer, Done.Done}
 use Rattle.lines.specs.Text.{decimal, space, newline, numeral, texts, startWord, orderWord, deleteWord, auctionWord, tradeWord, faultWord, endWord}
 
 -- numbers, each behind a space, and the end of the line
@@ -35,3 +35,8 @@ faultLine place = placed place faultWord (1 ∷ [])
 -- the last line counts records answered
 abbrev pub endLine : ℕ → List ℕ
 endLine count = endWord ++ numbers (count ∷ [])
+
+-- a record that was done is answered 0, an order with its number
+abbrev pub answerOf : Done → ℕ → Answer
+answerOf Done.Order number = Answer.Order 0 number
+answerOf Done.Delete number = Answer.Delete 0

@@ -7,6 +7,10 @@ use lib.Dec.{ltb}
 abbrev pub digit : ℕ → ℕ
 digit d = 48 + d
 
+-- two digits, the first of which may be 0
+abbrev pub pair : ℕ → List ℕ
+pair x = digit (x / 10) ∷ digit (x % 10) ∷ []
+
 -- a number in decimal, of at most n digits
 unfoldable pub digits : ℕ → ℕ → List ℕ
 digits zero x = []

@@ -4,6 +4,7 @@ use session::AuctionAnswer;
 mod line;
 mod text;
 
+pub use line::done_line;
 pub use line::end_line;
 pub use line::fault_line;
 pub use line::line_of;
@@ -25,4 +26,10 @@ pub enum Answer {
     Order(u8, u32),
     Delete(u8),
     Auction(u8, AuctionAnswer),
+}
+
+// A record that was done: its answer is 0.
+pub enum Done {
+    Order,
+    Delete,
 }

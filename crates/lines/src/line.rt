@@ -1,19 +1,17 @@
 // The lines that the session program prints, each written into a lent buffer from a place on (01 "Session file"; D3).
 use crate::Answer;
-use crate::text::SPACE;
+use crate::Done;
 use crate::text::put_byte;
 use crate::text::put_bytes;
 use crate::text::put_decimal;
 use crate::text::put_number;
 use trades::Trade;
-ghost use mathlib.Core.List.{_∷_, _++_};
 ghost use Prim.Native.Nat.{_+_, _*_, _≤_};
 ghost use lib.ListN.{length};
 ghost use Rattle.terms.specs.Bounds.{numbersPerTrade};
 ghost use Rattle.trades.specs.Written.{tradesRead};
-ghost use Rattle.lines.specs.Text.{decimal, space};
-ghost use Rattle.lines.specs.Line.{numbers, placed, lineOf, tradeLine, tradeLines, faultLine, endLine};
-ghost use Rattle.lines.specs.Lengths.{numbersRoom, placeRoom, lineRoom, tradeRoom, faultRoom, endRoom};
+ghost use Rattle.lines.specs.Line.{numbers, lineOf, answerOf, tradeLine, tradeLines, faultLine, endLine};
+ghost use Rattle.lines.specs.Lengths.{numbersRoom, lineRoom, tradeRoom, faultRoom, endRoom};
 ghost use Rattle.lines.specs.Put.{Wrote};
 
 const NEWLINE: u8 = 10;
@@ -32,42 +30,27 @@ fn put_numbers(out: &mut [u8], at: usize, xs: &[u64]) -> usize
     put_byte(out, end, NEWLINE)
 }
 
-// A record's place and a word.
-fn put_place(out: &mut [u8], at: usize, place: u64, word: &[u8]) -> usize
-    requires { ⌜ (at + placeRoom ≤ length (now out)) × (length (now word) ≤ 7) ⌝ }
-    ensures { λ r. ⌜ Wrote (now (out .entry)) (now (out .exit)) at r (decimal place ++ space ∷ now (word .entry)) ⌝ }
-{
-    let p = put_decimal(out, at, place);
-    let q = put_byte(out, p, SPACE);
-    put_bytes(out, q, word)
-}
-
-// A line of a record's place, a word and numbers.
-fn put_line(out: &mut [u8], at: usize, place: u64, word: &[u8], xs: &[u64]) -> usize
-    requires { ⌜ (at + placeRoom + numbersRoom (length (now xs)) ≤ length (now out)) × (length (now word) ≤ 7) ⌝ }
-    ensures { λ r. ⌜ Wrote (now (out .entry)) (now (out .exit)) at r (placed place (now (word .entry)) (now (xs .entry))) ⌝ }
-{
-    let p = put_place(out, at, place, word);
-    put_numbers(out, p, xs)
-}
-
 // What a record was answered.
 pub fn line_of(out: &mut [u8], at: usize, place: u64, answer: Answer) -> usize
     requires { ⌜ at + lineRoom ≤ length (now out) ⌝ }
     ensures { λ r. ⌜ Wrote (now (out .entry)) (now (out .exit)) at r (lineOf place answer) ⌝ }
 {
+    let p = put_decimal(out, at, place);
     match answer {
         Answer::Start(a) => {
             let xs = [a as u64];
-            put_line(out, at, place, b"start", &xs)
+            let q = put_bytes(out, p, b" start");
+            put_numbers(out, q, &xs)
         }
         Answer::Order(a, number) => {
             let xs = [a as u64, number as u64];
-            put_line(out, at, place, b"order", &xs)
+            let q = put_bytes(out, p, b" order");
+            put_numbers(out, q, &xs)
         }
         Answer::Delete(a) => {
             let xs = [a as u64];
-            put_line(out, at, place, b"delete", &xs)
+            let q = put_bytes(out, p, b" delete");
+            put_numbers(out, q, &xs)
         }
         Answer::Auction(a, r) => {
             let xs = [
@@ -77,8 +60,25 @@ pub fn line_of(out: &mut [u8], at: usize, place: u64, answer: Answer) -> usize
                 r.quantity,
                 r.count as u64,
             ];
-            put_line(out, at, place, b"auction", &xs)
+            let q = put_bytes(out, p, b" auction");
+            put_numbers(out, q, &xs)
         }
+    }
+}
+
+// The line of an order or a deletion that was done: most lines of a session are one of these two.
+pub fn done_line(out: &mut [u8], at: usize, place: u64, done: Done, number: u32) -> usize
+    requires { ⌜ at + lineRoom ≤ length (now out) ⌝ }
+    ensures { λ r. ⌜ Wrote (now (out .entry)) (now (out .exit)) at r (lineOf place (answerOf done number)) ⌝ }
+{
+    let p = put_decimal(out, at, place);
+    match done {
+        Done::Order => {
+            let q = put_bytes(out, p, b" order 0 ");
+            let r = put_decimal(out, q, number as u64);
+            put_byte(out, r, NEWLINE)
+        }
+        Done::Delete => put_bytes(out, p, b" delete 0\n"),
     }
 }
 
@@ -112,8 +112,8 @@ pub fn fault_line(out: &mut [u8], at: usize, place: u64) -> usize
     requires { ⌜ at + faultRoom ≤ length (now out) ⌝ }
     ensures { λ r. ⌜ Wrote (now (out .entry)) (now (out .exit)) at r (faultLine place) ⌝ }
 {
-    let xs = [1u64];
-    put_line(out, at, place, b"fault", &xs)
+    let p = put_decimal(out, at, place);
+    put_bytes(out, p, b" fault 1\n")
 }
 
 // How many records were answered.

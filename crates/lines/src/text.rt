@@ -1,12 +1,12 @@
 // Text: bytes, words and numbers in decimal, each written into a lent buffer from a place on; the place behind it (01 "Session file").
 ghost use mathlib.Core.Path.{_≡_};
 ghost use mathlib.Core.List.{_∷_, []};
-ghost use Prim.Native.Nat.{_+_, _≤_};
+ghost use Prim.Native.Nat.{_+_, _≤_, _<_};
 ghost use lib.ListN.{length};
-ghost use Rattle.lines.specs.Text.{decimal, space};
+ghost use Rattle.lines.specs.Text.{decimal, digit, pair, space};
 ghost use Rattle.lines.specs.Put.{Wrote};
 
-pub const SPACE: u8 = 32;
+const SPACE: u8 = 32;
 
 const ZERO: u8 = 48;
 
@@ -46,7 +46,7 @@ fn count_digits(x: u64) -> usize
 }
 
 // A number in decimal, from its last digit to its first.
-pub fn put_decimal(out: &mut [u8], at: usize, x: u64) -> usize
+fn put_digits(out: &mut [u8], at: usize, x: u64) -> usize
     requires { ⌜ at + 20 ≤ length (now out) ⌝ }
     ensures { λ r. ⌜ Wrote (now (out .entry)) (now (out .exit)) at r (decimal x) ⌝ }
 {
@@ -59,6 +59,47 @@ pub fn put_decimal(out: &mut [u8], at: usize, x: u64) -> usize
         rest = rest / BASE;
     }
     at + n
+}
+
+// A number of one digit.
+fn put_digit(out: &mut [u8], at: usize, x: u32) -> usize
+    requires { ⌜ (at + 1 ≤ length (now out)) × (x < 10) ⌝ }
+    ensures { λ r. ⌜ Wrote (now (out .entry)) (now (out .exit)) at r (digit x ∷ []) ⌝ }
+{
+    put_byte(out, at, ZERO + x as u8)
+}
+
+// Two digits, the first of which may be 0.
+fn put_pair(out: &mut [u8], at: usize, x: u32) -> usize
+    requires { ⌜ (at + 2 ≤ length (now out)) × (x < 100) ⌝ }
+    ensures { λ r. ⌜ Wrote (now (out .entry)) (now (out .exit)) at r (pair x) ⌝ }
+{
+    let p = put_digit(out, at, x / 10);
+    put_digit(out, p, x % 10)
+}
+
+// A number in decimal. Most numbers of a session are short, and are written with no loop.
+pub fn put_decimal(out: &mut [u8], at: usize, x: u64) -> usize
+    requires { ⌜ at + 20 ≤ length (now out) ⌝ }
+    ensures { λ r. ⌜ Wrote (now (out .entry)) (now (out .exit)) at r (decimal x) ⌝ }
+{
+    if x < 10 {
+        return put_digit(out, at, x as u32);
+    }
+    if x < 100 {
+        return put_pair(out, at, x as u32);
+    }
+    if x < 1000 {
+        let y = x as u32;
+        let p = put_digit(out, at, y / 100);
+        return put_pair(out, p, y % 100);
+    }
+    if x < 10_000 {
+        let y = x as u32;
+        let p = put_pair(out, at, y / 100);
+        return put_pair(out, p, y % 100);
+    }
+    put_digits(out, at, x)
 }
 
 // A number behind a space.

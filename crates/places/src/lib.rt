@@ -6,7 +6,6 @@ pub use words::WORDS;
 pub use words::bit_of;
 pub use words::count_taken;
 pub use words::lowest_free;
-pub use words::marked;
 pub use words::put_word;
 pub use words::unmarked;
 pub use words::with_bit;

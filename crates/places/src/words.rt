@@ -3,7 +3,7 @@ use terms::Place;
 ghost use mathlib.Core.Path.{_≡_};
 ghost use Prim.Native.Nat.{_<_, _≤_};
 ghost use lib.ListN.{set};
-ghost use Rattle.places.specs.Places.{bit, total, lowestFree, countTaken, withBit, withoutBit, marked as Places·marked, unmarked as Places·unmarked};
+ghost use Rattle.places.specs.Places.{bit, total, lowestFree, countTaken, withBit, withoutBit, unmarked as Places·unmarked};
 ghost use Rattle.places.specs.Words.{LowClear};
 ghost use Rattle.terms.specs.Bounds.{places};
 
@@ -33,15 +33,15 @@ fn set_bits(word: u64) -> usize
     u64::count_ones(word) as usize
 }
 
-// The lowest free place, or 512.
-pub fn lowest_free(taken: [u64; WORDS]) -> usize
-    ensures { λ r. ⌜ r ≡ lowestFree taken ⌝ }
+// The lowest free place, or 512: in the first word with a place left, its lowest clear bit.
+pub fn lowest_free(taken: &[u64; WORDS]) -> usize
+    ensures { λ r. ⌜ r ≡ lowestFree (now (taken .entry)) ⌝ }
 {
     let mut j: usize = 0;
     while j < WORDS {
-        let z = low_clear(taken[j]);
-        if z < WORD_PLACES {
-            return j * WORD_PLACES + z;
+        let word = taken[j];
+        if set_bits(word) < WORD_PLACES {
+            return j * WORD_PLACES + low_clear(word);
         }
         j += 1;
     }
@@ -64,11 +64,7 @@ pub fn with_bit(word: u64, k: usize) -> u64
     requires { ⌜ k < 64 ⌝ }
     ensures { λ r. ⌜ r ≡ withBit k word ⌝ }
 {
-    if bit_of(word, k) == 1 {
-        word
-    } else {
-        word + (1 << k)
-    }
+    word | (1 << k)
 }
 
 pub fn without_bit(word: u64, k: usize) -> u64
@@ -88,15 +84,6 @@ pub fn put_word(words: &mut [u64; WORDS], j: usize, word: u64)
     ensures { λ _. ⌜ now (words .exit) ≡ set (now (words .entry)) j word ⌝ }
 {
     words[j] = word;
-}
-
-pub fn marked(mut taken: [u64; WORDS], place: usize) -> [u64; WORDS]
-    requires { ⌜ place < places ⌝ }
-    ensures { λ r. ⌜ r ≡ Places·marked taken place ⌝ }
-{
-    let j = place / WORD_PLACES;
-    taken[j] = with_bit(taken[j], place % WORD_PLACES);
-    taken
 }
 
 pub fn unmarked(mut taken: [u64; WORDS], place: usize) -> [u64; WORDS]

@@ -3,6 +3,7 @@ pub mod Fields
 pub mod Numbers
 pub mod Walk
 pub mod Reads
+pub mod Headers
 pub mod Ends
 pub mod Pieces
 pub mod Examples

@@ -1,6 +1,6 @@
 -- A file that comes in pieces: what is read of its front part is read of the whole.
 use Prim.Native.Nat.{ℕ, zero, suc, _+_, _-_, _≤_, _<_}
-use mathlib.Core.Bool.{Bool, true, false, _||_, _&&_, true≢false}
+use mathlib.Core.Bool.{Bool, true, false, cond, not, _||_, _&&_, true≢false}
 use mathlib.Core.Path.{_≡_, refl, sym, _∙_, ap}
 use mathlib.Core.List.{List, _++_}
 use lib.Dec.{leb, ltb}
@@ -9,14 +9,57 @@ use lib.Seq.{take-append-le, drop-append-le, getD-drop, drop-drop}
 use native.Mathlib.Omega.{arith}
 use borrow.Author.Tests.{le-ltb, lt-ltb, ltb-true, ltb-false, leb-true, leb-false}
 use Rattle.lists.specs.Tests.{neither}
-use Rattle.records.specs.declared.{Record.Record, Read.Read}
-use Rattle.records.specs.Fields.{number, headerLength}
-use Rattle.records.specs.Walk.{lengthAt, partAt, isFaulty, recordAt}
+use Rattle.records.specs.declared.{Record.Record, Read.Read, Piece.Piece, walk.Header.Header}
+use Rattle.records.specs.Fields.{number, headerLength, recordOf}
+use Rattle.records.specs.Walk.{lengthAt, kindAt, partAt, isFaulty, recordAt}
+use Rattle.records.specs.Headers.{headerAt, headerRead, read-header}
 use Rattle.records.specs.Reads.{isHeader, isCut, faulty-whole, read-end, read-fault, read-record, good-record}
 
 -- the header isn't whole yet, or it is good and its record isn't
 abbrev pub needsMore : List ℕ → ℕ → Bool
 needsMore bytes place = ltb (length bytes) (place + headerLength) || isHeader bytes place && isCut bytes place
+
+-- of a file that won't grow
+abbrev pub pieceOf : Read → Piece
+pieceOf (Read.Record r next) = Piece.Record r next
+pieceOf Read.Fault = Piece.Fault
+pieceOf Read.End = Piece.End
+
+-- what stands at a place of a piece: it waits where more bytes could decide, and is read as of the whole file otherwise
+unfoldable pub pieceAt : List ℕ → ℕ → Bool → Piece
+pieceAt bytes place ended = cond (not ended && needsMore bytes place) Piece.Waits (pieceOf (recordAt bytes place))
+
+-- by what a whole header says
+abbrev pub headerPiece : Bool → Header → Piece
+headerPiece ended (Header.Record r next) = Piece.Record r next
+headerPiece ended Header.Cut = cond ended Piece.Fault Piece.Waits
+headerPiece ended Header.Bad = Piece.Fault
+
+-- the header isn't whole, and more can come
+pub piece-waits : (bytes : List ℕ) (place : ℕ) → length bytes < place + headerLength → Piece.Waits ≡ pieceAt bytes place false
+unfolding pieceAt
+piece-waits bytes place h = rw (lt-ltb _ _ h)
+
+-- nothing more can come
+pub piece-ended : (bytes : List ℕ) (place : ℕ) {r : Read} → recordAt bytes place ≡ r → pieceOf r ≡ pieceAt bytes place true
+unfolding pieceAt
+piece-ended bytes place e = sym (ap pieceOf e)
+
+pub piece-header : (bytes : List ℕ) (place : ℕ) (ended : Bool) → place + headerLength ≤ length bytes
+    → headerPiece ended (headerAt bytes place) ≡ pieceAt bytes place ended
+unfolding pieceAt headerAt
+piece-header bytes place ended h =
+    rw (le-ltb _ _ h, sym (read-header bytes place h))
+    (go ended (isHeader bytes place) (isCut bytes place) (recordOf (kindAt bytes place) (partAt bytes place)) (place + lengthAt bytes place)) where
+      go : (e a b : Bool) (r : Record) (next : ℕ)
+          → headerPiece e (cond a (cond b Header.Cut (Header.Record r next)) Header.Bad) ≡
+          cond (not e && (a && b)) Piece.Waits (pieceOf (headerRead (cond a (cond b Header.Cut (Header.Record r next)) Header.Bad)))
+      go true true true r next = refl
+      go true true false r next = refl
+      go true false b r next = refl
+      go false true true r next = refl
+      go false true false r next = refl
+      go false false b r next = refl
 
 number-front : (n : ℕ) (bytes more : List ℕ) (place : ℕ) → place + n ≤ length bytes → number (bytes ++ more) place n ≡ number bytes place n
 unfolding number

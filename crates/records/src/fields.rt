@@ -1,12 +1,11 @@
 // The fields of a record, little-endian: a reader per kind, over the part of the file that starts at the record's fifth byte (D1).
 use crate::Deletion;
-use crate::Record;
 use terms::Entry;
 use terms::Limit;
 use terms::Parameters;
 ghost use mathlib.Core.Path.{_≡_};
 ghost use Prim.Native.Nat.{_+_, _<_, _^_};
-ghost use Rattle.records.specs.Fields.{number, startFields, orderFields, deleteFields, auctionField, kindLength, recordOf};
+ghost use Rattle.records.specs.Fields.{number, startFields, orderFields, deleteFields, auctionField};
 
 // The kinds of record and their lengths.
 pub struct Kind;
@@ -31,18 +30,14 @@ impl Kind {
 
     pub const AUCTION_LENGTH: usize = 5;
 
-    // 0 for an unknown kind.
-    pub fn length(kind: u16) -> usize
-        ensures { λ r. ⌜ r ≡ kindLength kind ⌝ }
-    {
-        match kind {
-            Kind::START => Kind::START_LENGTH,
-            Kind::ORDER => Kind::ORDER_LENGTH,
-            Kind::DELETE => Kind::DELETE_LENGTH,
-            Kind::AUCTION => Kind::AUCTION_LENGTH,
-            _ => 0,
-        }
-    }
+    // Length and kind as one number of four bytes, so that a header is judged by one load and one compare.
+    pub const START_HEAD: u32 = Kind::START_LENGTH as u32 + 65_536 * Kind::START as u32;
+
+    pub const ORDER_HEAD: u32 = Kind::ORDER_LENGTH as u32 + 65_536 * Kind::ORDER as u32;
+
+    pub const DELETE_HEAD: u32 = Kind::DELETE_LENGTH as u32 + 65_536 * Kind::DELETE as u32;
+
+    pub const AUCTION_HEAD: u32 = Kind::AUCTION_LENGTH as u32 + 65_536 * Kind::AUCTION as u32;
 }
 
 // Total: 0 behind the end.
@@ -52,7 +47,7 @@ fn byte(bytes: &[u8], at: usize) -> u8
     if at < bytes.len() { bytes[at] } else { 0 }
 }
 
-pub(crate) fn two(bytes: &[u8], at: usize) -> u16
+fn two(bytes: &[u8], at: usize) -> u16
     requires { ⌜ at + 1 < 2 ^ 64 ⌝ }
     ensures { λ r. ⌜ r ≡ number (now (bytes .entry)) at 2 ⌝ }
 {
@@ -61,7 +56,7 @@ pub(crate) fn two(bytes: &[u8], at: usize) -> u16
     low + 256 * high
 }
 
-fn four(bytes: &[u8], at: usize) -> u32
+pub(crate) fn four(bytes: &[u8], at: usize) -> u32
     requires { ⌜ at + 3 < 2 ^ 64 ⌝ }
     ensures { λ r. ⌜ r ≡ number (now (bytes .entry)) at 4 ⌝ }
 {
@@ -79,7 +74,7 @@ fn eight(bytes: &[u8], at: usize) -> u64
     low + 4_294_967_296 * high
 }
 
-fn start_fields(part: &[u8]) -> Parameters
+pub(crate) fn start_fields(part: &[u8]) -> Parameters
     ensures { λ r. ⌜ r ≡ startFields (now (part .entry)) ⌝ }
 {
     Parameters {
@@ -91,7 +86,7 @@ fn start_fields(part: &[u8]) -> Parameters
     }
 }
 
-fn order_fields(part: &[u8]) -> Entry
+pub(crate) fn order_fields(part: &[u8]) -> Entry
     ensures { λ r. ⌜ r ≡ orderFields (now (part .entry)) ⌝ }
 {
     Entry {
@@ -103,29 +98,17 @@ fn order_fields(part: &[u8]) -> Entry
     }
 }
 
-fn delete_fields(part: &[u8]) -> Deletion
+pub(crate) fn delete_fields(part: &[u8]) -> Deletion
     ensures { λ r. ⌜ r ≡ deleteFields (now (part .entry)) ⌝ }
 {
     Deletion {
-        number: four(part, 0),
         member: two(part, 4),
+        number: four(part, 0),
     }
 }
 
-fn auction_field(part: &[u8]) -> u8
+pub(crate) fn auction_field(part: &[u8]) -> u8
     ensures { λ r. ⌜ r ≡ auctionField (now (part .entry)) ⌝ }
 {
     byte(part, 0)
-}
-
-// The record of a known kind.
-pub(crate) fn record_of(kind: u16, part: &[u8]) -> Record
-    ensures { λ r. ⌜ r ≡ recordOf kind (now (part .entry)) ⌝ }
-{
-    match kind {
-        Kind::START => Record::Start(start_fields(part)),
-        Kind::ORDER => Record::Order(order_fields(part)),
-        Kind::DELETE => Record::Delete(delete_fields(part)),
-        _ => Record::Auction(auction_field(part)),
-    }
 }

@@ -1,41 +1,67 @@
 // What stands at a place of a file: a record, a fault or the end (01 "Session file").
+use crate::Piece;
 use crate::Read;
+use crate::Record;
 use crate::fields::Kind;
-use crate::fields::record_of;
-use crate::fields::two;
+use crate::fields::auction_field;
+use crate::fields::delete_fields;
+use crate::fields::four;
+use crate::fields::order_fields;
+use crate::fields::start_fields;
 ghost use mathlib.Core.Path.{_≡_};
 ghost use Prim.Native.Nat.{_+_, _≤_};
 ghost use lib.ListN.{length};
-ghost use Rattle.records.specs.Walk.{isFaulty, recordAt};
-ghost use Rattle.records.specs.Reads.{isHeader, isCut};
-ghost use Rattle.records.specs.Pieces.{needsMore};
+ghost use Rattle.records.specs.Fields.{headerLength};
+ghost use Rattle.records.specs.Walk.{recordAt};
+ghost use Rattle.records.specs.Headers.{headerAt};
+ghost use Rattle.records.specs.Pieces.{pieceAt};
 
-// A known kind and that kind's length.
-fn is_header(bytes: &[u8], place: usize) -> bool
-    requires { ⌜ place + 4 ≤ length (now bytes) ⌝ }
-    ensures { λ r. ⌜ r ≡ isHeader (now (bytes .entry)) place ⌝ }
-{
-    let length = two(bytes, place) as usize;
-    let known = Kind::length(two(bytes, place + 2));
-    (known != 0) & (length == known)
+// What a whole header says: a record and the place behind it, a record that isn't whole, or no known kind with its length.
+enum Header {
+    Record(Record, usize),
+    Cut,
+    Bad,
 }
 
-fn is_cut(bytes: &[u8], place: usize) -> bool
-    requires { ⌜ place + 4 ≤ length (now bytes) ⌝ }
-    ensures { λ r. ⌜ r ≡ isCut (now (bytes .entry)) place ⌝ }
+// Each kind has its constant length, so that the field readers' tests vanish when compiled.
+fn header_at(bytes: &[u8], place: usize) -> Header
+    requires { ⌜ place + headerLength ≤ length (now bytes) ⌝ }
+    ensures { λ r. ⌜ r ≡ headerAt (now (bytes .entry)) place ⌝ }
 {
-    bytes.len() < place + two(bytes, place) as usize
-}
-
-// An unknown kind, a length that is not the kind's, or a cut record.
-fn is_faulty(bytes: &[u8], place: usize) -> bool
-    requires { ⌜ place ≤ length (now bytes) ⌝ }
-    ensures { λ r. ⌜ r ≡ isFaulty (now (bytes .entry)) place ⌝ }
-{
-    if bytes.len() < place + Kind::HEADER_LENGTH {
-        return true;
+    let left = bytes.len() - place;
+    let from = place + Kind::HEADER_LENGTH;
+    let head = four(bytes, place);
+    match head {
+        Kind::START_HEAD => {
+            if left < Kind::START_LENGTH {
+                return Header::Cut;
+            }
+            let next = place + Kind::START_LENGTH;
+            Header::Record(Record::Start(start_fields(&bytes[from..next])), next)
+        }
+        Kind::ORDER_HEAD => {
+            if left < Kind::ORDER_LENGTH {
+                return Header::Cut;
+            }
+            let next = place + Kind::ORDER_LENGTH;
+            Header::Record(Record::Order(order_fields(&bytes[from..next])), next)
+        }
+        Kind::DELETE_HEAD => {
+            if left < Kind::DELETE_LENGTH {
+                return Header::Cut;
+            }
+            let next = place + Kind::DELETE_LENGTH;
+            Header::Record(Record::Delete(delete_fields(&bytes[from..next])), next)
+        }
+        Kind::AUCTION_HEAD => {
+            if left < Kind::AUCTION_LENGTH {
+                return Header::Cut;
+            }
+            let next = place + Kind::AUCTION_LENGTH;
+            Header::Record(Record::Auction(auction_field(&bytes[from..next])), next)
+        }
+        _ => Header::Bad,
     }
-    !is_header(bytes, place) | is_cut(bytes, place)
 }
 
 // Total: behind the end nothing stands.
@@ -45,24 +71,31 @@ pub fn record_at(bytes: &[u8], place: usize) -> Read
     if bytes.len() <= place {
         return Read::End;
     }
-    if is_faulty(bytes, place) {
+    if bytes.len() - place < Kind::HEADER_LENGTH {
         return Read::Fault;
     }
-    let kind = two(bytes, place + 2);
-    let next = place + two(bytes, place) as usize;
-    Read::Record(
-        record_of(kind, &bytes[place + Kind::HEADER_LENGTH..next]),
-        next,
-    )
+    match header_at(bytes, place) {
+        Header::Record(record, next) => Read::Record(record, next),
+        Header::Cut => Read::Fault,
+        Header::Bad => Read::Fault,
+    }
 }
 
-// Of a file that comes in pieces: what stands at the place can't be told before more bytes, or the end, have come.
-pub fn needs_more(bytes: &[u8], place: usize) -> bool
+// `ended` says that no more bytes will come.
+pub fn piece_at(bytes: &[u8], place: usize, ended: bool) -> Piece
     requires { ⌜ place ≤ length (now bytes) ⌝ }
-    ensures { λ r. ⌜ r ≡ needsMore (now (bytes .entry)) place ⌝ }
+    ensures { λ r. ⌜ r ≡ pieceAt (now (bytes .entry)) place ended ⌝ }
 {
-    if bytes.len() < place + Kind::HEADER_LENGTH {
-        return true;
+    let left = bytes.len() - place;
+    if left < Kind::HEADER_LENGTH {
+        if ended {
+            return if left == 0 { Piece::End } else { Piece::Fault };
+        }
+        return Piece::Waits;
     }
-    is_header(bytes, place) & is_cut(bytes, place)
+    match header_at(bytes, place) {
+        Header::Record(record, next) => Piece::Record(record, next),
+        Header::Cut => { if ended { Piece::Fault } else { Piece::Waits } }
+        Header::Bad => Piece::Fault,
+    }
 }

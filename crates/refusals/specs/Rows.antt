@@ -2,7 +2,7 @@
 use Prim.Native.Nat.{ℕ}
 use mathlib.Core.Bool.{Bool, cond, not, _&&_, _||_}
 use mathlib.Core.List.{List, [], _∷_}
-use lib.Dec.{eqb, leb, ltb}
+use lib.Dec.{leb, ltb}
 use Rattle.terms.specs.Bounds.{places, maxNumber, tradeListLength}
 use Rattle.terms.specs.Kinds.{isNumber, isMember}
 use Rattle.terms.specs.Orders.{isEntry, isSide, isAuction}
@@ -21,9 +21,9 @@ startRows phase p =
     ∷ check 3 (hasStarted phase)
     ∷ []
 
--- Order: 1, 2, 4, 5, 6, 7, 8, 9, 10; by the reference price of the controls, the last number given and how many places are taken.
-abbrev pub orderRows : Phase → Parameters → ℕ → ℕ → ℕ → Entry → List Check
-orderRows phase p reference given taken e =
+-- Order: 1, 2, 4, 5, 6, 7, 8, 9, 10; by the reference price of the controls, the last number given and whether all 512 places are taken.
+abbrev pub orderRows : Phase → Parameters → ℕ → ℕ → Bool → Entry → List Check
+orderRows phase p reference given full e =
     check 1 (not (isEntry e))
     ∷ check 2 (not (hasStarted phase))
     ∷ check 4 (not (allowsOrder phase (e .validity)))
@@ -32,7 +32,7 @@ orderRows phase p reference given taken e =
     ∷ check 7 (reachesMost (p .most) (e .quantity) (e .limit))
     ∷ check 8 (reachesMostAtReference (p .most) (e .quantity) reference)
     ∷ check 9 (leb maxNumber given)
-    ∷ check 10 (eqb taken places)
+    ∷ check 10 full
     ∷ []
 
 -- Delete: 1, 2, 11; by whether no resting order has this number and this member.

@@ -28,32 +28,46 @@ fn first_of(hit: bool, number: u8, later: u8) -> u8
     if hit { number } else { later }
 }
 
-// Which refusal an order gets, by the reference price of the controls, the last number given and how many places are
-// taken: the checks from the last to the first, each in front of those after it.
+// Which refusal an order gets, by the reference price of the controls, the last number given and whether all places are taken.
 pub fn order_refusal(
     phase: Phase,
     p: Parameters,
     reference: u32,
     given: u32,
-    taken: usize,
+    full: bool,
     e: Entry,
 ) -> u8
-    ensures { λ r. ⌜ r ≡ firstHit (orderRows phase p reference given taken e) ⌝ }
+    ensures { λ r. ⌜ r ≡ firstHit (orderRows phase p reference given full e) ⌝ }
 {
     let limit = e.limit;
-    let r10 = first_of(taken == Place::COUNT, 10, 0);
-    let r9 = first_of(Number::MAX <= given, 9, r10);
-    let r8 = first_of(
-        reaches_most_at_reference(p.most, e.quantity, reference),
-        8,
-        r9,
-    );
-    let r7 = first_of(reaches_most(p.most, e.quantity, limit), 7, r8);
-    let r6 = first_of(reaches_collar(reference, p.factor, limit), 6, r7);
-    let r5 = first_of(off_step(p.step, limit), 5, r6);
-    let r4 = first_of(!allows_order(phase, e.validity), 4, r5);
-    let r2 = first_of(!has_started(phase), 2, r4);
-    first_of(!e.holds(), 1, r2)
+    if !e.holds() {
+        return 1;
+    }
+    if !has_started(phase) {
+        return 2;
+    }
+    if !allows_order(phase, e.validity) {
+        return 4;
+    }
+    if off_step(p.step, limit) {
+        return 5;
+    }
+    if reaches_collar(reference, p.factor, limit) {
+        return 6;
+    }
+    if reaches_most(p.most, e.quantity, limit) {
+        return 7;
+    }
+    if reaches_most_at_reference(p.most, e.quantity, reference) {
+        return 8;
+    }
+    if Number::MAX <= given {
+        return 9;
+    }
+    if full {
+        return 10;
+    }
+    0
 }
 
 // Which refusal a deletion gets; the order asked for stands at the place, or nowhere.

@@ -1,6 +1,6 @@
 -- What an order and a deletion change, from the parts of a session that decide it; and that this is what the calls leave.
 use Prim.Native.Nat.{ℕ, zero, suc, _+_, _/_, _%_, _<_}
-use mathlib.Core.Bool.{not}
+use mathlib.Core.Bool.{Bool, not}
 use mathlib.Core.Logic.{_≢_}
 use mathlib.Core.Path.{_≡_, refl, sym, ap, _∙_}
 use mathlib.Core.List.{List}
@@ -15,8 +15,8 @@ use Rattle.terms.specs.Orders.{orderOf, isEntry}
 use Rattle.terms.specs.Made.{entry-asks}
 use Rattle.terms.specs.declared.orders.{Order.Order, OrderMade.OrderMade, Entry.Entry}
 use Rattle.terms.specs.declared.parameters.{Parameters.Parameters}
-use Rattle.places.specs.Places.{wordPlaces, lowestFree, countTaken, withBit, withoutBit, marked, unmarked}
-use Rattle.places.specs.Words.{lowest-free-room}
+use Rattle.places.specs.Places.{wordPlaces, lowestFree, countTaken, isFull, withBit, withoutBit, marked, unmarked}
+use Rattle.places.specs.Words.{lowest-free-room, full-none-free}
 use Rattle.book.specs.declared.Values.{Values}
 use Rattle.book.specs.Columns.{valuesOf, emptyValues, written, stored, cleared}
 use Rattle.book.specs.Resting.{placeOf, isOf, placeIn, place-in}
@@ -57,7 +57,7 @@ orderDone OrderMade.Refused number taken = Effect.Refused 1
 
 unfoldable pub orderEffect : Phase → Parameters → ℕ → ℕ → List ℕ → Entry → Effect
 orderEffect phase p reference given taken e =
-    effectOf (firstHit (orderRows phase p reference given (countTaken taken) e)) (orderDone (orderOf (given + 1) e) (given + 1) taken)
+    effectOf (firstHit (orderRows phase p reference given (isFull taken) e)) (orderDone (orderOf (given + 1) e) (given + 1) taken)
 
 abbrev pub deleteDone : ℕ → List ℕ → ℕ → Effect
 deleteDone given taken place = Effect.Done (record {
@@ -67,9 +67,9 @@ deleteDone given taken place = Effect.Done (record {
   values = emptyValues;
 })
 
-unfoldable pub deleteEffect : Phase → ℕ → List ℕ → List ℕ → List ℕ → ℕ → ℕ → Effect
-deleteEffect phase given taken numbers members number member =
-    let place = placeIn taken numbers members number member 0 places in
+-- of the order that stands at the place, or nowhere
+unfoldable pub deleteEffect : Phase → ℕ → List ℕ → ℕ → ℕ → ℕ → Effect
+deleteEffect phase given taken place number member =
     effectOf (firstHit (deleteRows phase number member (not (isPlace place)))) (deleteDone given taken place)
 
 -- .. in a session
@@ -77,7 +77,7 @@ abbrev pub orderIn : Session → Entry → Effect
 orderIn s e = orderEffect (s .phase) (s .parameters) (s .reference) (s .given) (s .book .taken) e
 
 abbrev pub deleteIn : Session → ℕ → ℕ → Effect
-deleteIn s number member = deleteEffect (s .phase) (s .given) (s .book .taken) (s .book .number) (s .book .member) number member
+deleteIn s number member = deleteEffect (s .phase) (s .given) (s .book .taken) (placeIn (s .book .taken) (s .book .number) (s .book .member) number member 0 places) number member
 
 -- what the calls return, by the effect
 abbrev pub enteredBy : Session → Effect → Entered
@@ -89,15 +89,15 @@ deletedBy s (Effect.Refused n) = record { answer = n; session = s }
 deletedBy s (Effect.Done c) = record { answer = 0; session = changed s c }
 
 -- ---- an order that is not refused: its fields are in range, a number is left, and a place
-module _ (phase : Phase) (p : Parameters) (reference given : ℕ) (taken : List ℕ) (e : Entry) (h : firstHit (orderRows phase p reference given (countTaken taken) e) ≡ 0) where
+module _ (phase : Phase) (p : Parameters) (reference given : ℕ) (taken : List ℕ) (e : Entry) (h : firstHit (orderRows phase p reference given (isFull taken) e) ≡ 0) where
   pub in-range : T (isEntry e)
-  in-range = test-holds (isEntry e) (none-hit (orderRows phase p reference given (countTaken taken) e) tt .0 h .0)
+  in-range = test-holds (isEntry e) (none-hit (orderRows phase p reference given (isFull taken) e) tt .0 h .0)
 
   pub number-left : given < maxNumber
-  number-left = leb-false maxNumber given (none-hit (orderRows phase p reference given (countTaken taken) e) tt .0 h .1 .1 .1 .1 .1 .1 .1 .0)
+  number-left = leb-false maxNumber given (none-hit (orderRows phase p reference given (isFull taken) e) tt .0 h .1 .1 .1 .1 .1 .1 .1 .0)
 
   pub place-left : lowestFree taken < places
-  place-left = lowest-free-room taken (eqb-false (countTaken taken) places (none-hit (orderRows phase p reference given (countTaken taken) e) tt .0 h .1 .1 .1 .1 .1 .1 .1 .1 .0))
+  place-left = lowest-free-room taken (eqb-false (countTaken taken) places (none-hit (orderRows phase p reference given (isFull taken) e) tt .0 h .1 .1 .1 .1 .1 .1 .1 .1 .0))
 
 -- what an order does is what the call returns
 pub entered-by : (s : Session) (e : Entry) → enteredBy s (orderIn s e) ≡ entered s e
@@ -128,8 +128,8 @@ module _ (phase : Phase) (p : Parameters) (reference given : ℕ) (taken : List 
   -- a change is at a place
   pub order-place : {c : Change} → orderEffect phase p reference given taken e ≡ Effect.Done c → c .place < places
   unfolding orderEffect
-  order-place {c} = go (firstHit (orderRows phase p reference given (countTaken taken) e)) refl (orderOf (given + 1) e) where
-    go : (n : ℕ) → firstHit (orderRows phase p reference given (countTaken taken) e) ≡ n → (made : OrderMade) → effectOf n (orderDone made (given + 1) taken) ≡ Effect.Done c → c .place < places
+  order-place {c} = go (firstHit (orderRows phase p reference given (isFull taken) e)) refl (orderOf (given + 1) e) where
+    go : (n : ℕ) → firstHit (orderRows phase p reference given (isFull taken) e) ≡ n → (made : OrderMade) → effectOf n (orderDone made (given + 1) taken) ≡ Effect.Done c → c .place < places
     go zero h (OrderMade.Good o) i = let same : lowestFree taken ≡ c .place = ap placeIn′ i in rw (← same) (place-left phase p reference given taken e h) where
       placeIn′ : Effect → ℕ
       placeIn′ (Effect.Refused n) = 0
@@ -137,49 +137,46 @@ module _ (phase : Phase) (p : Parameters) (reference given : ℕ) (taken : List 
     go zero h OrderMade.Refused i = absurd (let z : _≡_ {A = ℕ} 0 1 = cc in omega arith)
     go (suc n) h made i = absurd (let z : _≡_ {A = ℕ} 0 1 = cc in omega arith)
 
-  module _ {count n : ℕ} (counted : count ≡ countTaken taken) (hit : n ≡ firstHit (orderRows phase p reference given count e)) where
-    pub order-hit : n ≡ firstHit (orderRows phase p reference given (countTaken taken) e)
-    order-hit = rw counted at hit
+  module _ {place n : ℕ} {left : Bool} (free : place ≡ lowestFree taken) (is-left : left ≡ isPlace place) (hit : n ≡ firstHit (orderRows phase p reference given (not left) e)) where
+    pub order-hit : n ≡ firstHit (orderRows phase p reference given (isFull taken) e)
+    order-hit = rw (is-left, free, full-none-free taken) at hit
 
     pub order-turned-down : n ≢ 0 → Effect.Refused n ≡ orderEffect phase p reference given taken e
     unfolding orderEffect
     order-turned-down h = refused n _ h ∙ ap (λ (m : ℕ). effectOf m (orderDone (orderOf (given + 1) e) (given + 1) taken)) order-hit
 
-    pub order-done : n ≡ 0 → {o : Order} {place word : ℕ} {values : Values} → OrderMade.Good o ≡ orderOf (given + 1) e → place ≡ lowestFree taken
+    pub order-done : n ≡ 0 → {o : Order} {word : ℕ} {values : Values} → OrderMade.Good o ≡ orderOf (given + 1) e
         → word ≡ withBit (place % wordPlaces) (getD taken (place / wordPlaces) 0) → values ≡ valuesOf o
         → Effect.Done (record { given = given + 1; place = place; word = word; values = values }) ≡ orderEffect phase p reference given taken e
     unfolding orderEffect
-    order-done z made at bits same = rw (sym order-hit ∙ z, ← made, bits, at, same)
+    order-done z made bits same = rw (sym order-hit ∙ z, ← made, bits, free, same)
 
     pub order-made : n ≡ 0 → OrderMade.Refused ≡ orderOf (given + 1) e → ⊥
     order-made z i = let k = entry-asks (given + 1) e (in-range phase p reference given taken e (sym order-hit ∙ z)) .made in let y : _≡_ {A = ℕ} 0 1 = cc in omega arith
 
-module _ (phase : Phase) (given : ℕ) (taken numbers members : List ℕ) (number member : ℕ) where
-  found : (place : ℕ) → firstHit (deleteRows phase number member (not (isPlace place))) ≡ 0 → place < places
-  found place h = ltb-true place places (not-false _ (none-hit (deleteRows phase number member (not (isPlace place))) tt .0 h .1 .1 .0))
+module _ (phase : Phase) (given : ℕ) (taken : List ℕ) (place number member : ℕ) where
+  found : firstHit (deleteRows phase number member (not (isPlace place))) ≡ 0 → place < places
+  found h = ltb-true place places (not-false _ (none-hit (deleteRows phase number member (not (isPlace place))) tt .0 h .1 .1 .0))
 
-  pub delete-place : {c : Change} → deleteEffect phase given taken numbers members number member ≡ Effect.Done c → c .place < places
+  pub delete-place : {c : Change} → deleteEffect phase given taken place number member ≡ Effect.Done c → c .place < places
   unfolding deleteEffect
-  delete-place {c} = go (firstHit (deleteRows phase number member (not (isPlace at)))) refl where
-    at : ℕ
-    at = placeIn taken numbers members number member 0 places
-
-    go : (n : ℕ) → firstHit (deleteRows phase number member (not (isPlace at))) ≡ n → effectOf n (deleteDone given taken at) ≡ Effect.Done c → c .place < places
-    go zero h i = let same : at ≡ c .place = ap placed i in rw (← same) (found at h) where
+  delete-place {c} = go (firstHit (deleteRows phase number member (not (isPlace place)))) refl where
+    go : (n : ℕ) → firstHit (deleteRows phase number member (not (isPlace place))) ≡ n → effectOf n (deleteDone given taken place) ≡ Effect.Done c → c .place < places
+    go zero h i = let same : place ≡ c .place = ap placed i in rw (← same) (found h) where
       placed : Effect → ℕ
       placed (Effect.Refused n) = 0
       placed (Effect.Done c) = c .place
     go (suc n) h i = absurd (let z : _≡_ {A = ℕ} 0 1 = cc in omega arith)
 
-  module _ {place n : ℕ} (p : place ≡ placeIn taken numbers members number member 0 places) (hit : n ≡ firstHit (deleteRows phase number member (not (isPlace place)))) where
-    pub delete-turned-down : n ≢ 0 → Effect.Refused n ≡ deleteEffect phase given taken numbers members number member
+  module _ {n : ℕ} (hit : n ≡ firstHit (deleteRows phase number member (not (isPlace place)))) where
+    pub delete-turned-down : n ≢ 0 → Effect.Refused n ≡ deleteEffect phase given taken place number member
     unfolding deleteEffect
-    delete-turned-down h = rw (← p) (refused n (deleteDone given taken place) h ∙ ap (λ (m : ℕ). effectOf m (deleteDone given taken place)) hit)
+    delete-turned-down h = refused n (deleteDone given taken place) h ∙ ap (λ (m : ℕ). effectOf m (deleteDone given taken place)) hit
 
     pub delete-room : n ≡ 0 → place < places
-    delete-room z = found place (sym hit ∙ z)
+    delete-room z = found (sym hit ∙ z)
 
     pub delete-done : n ≡ 0 → {word : ℕ} → word ≡ withoutBit (place % wordPlaces) (getD taken (place / wordPlaces) 0)
-        → Effect.Done (record { given = given; place = place; word = word; values = emptyValues }) ≡ deleteEffect phase given taken numbers members number member
+        → Effect.Done (record { given = given; place = place; word = word; values = emptyValues }) ≡ deleteEffect phase given taken place number member
     unfolding deleteEffect
-    delete-done z w = rw (← p, sym hit ∙ z, w)
+    delete-done z w = rw (sym hit ∙ z, w)

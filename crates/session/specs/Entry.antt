@@ -9,7 +9,7 @@ use Rattle.terms.specs.Orders.{orderOf}
 use Rattle.terms.specs.declared.orders.{OrderMade.OrderMade, Entry.Entry}
 use Rattle.terms.specs.declared.parameters.{Parameters.Parameters}
 use Rattle.book.specs.declared.Book.{Book}
-use Rattle.places.specs.Places.{lowestFree, countTaken}
+use Rattle.places.specs.Places.{lowestFree, isFull}
 use Rattle.book.specs.Columns.{emptyBook, stored, cleared}
 use Rattle.book.specs.Resting.{resting, placeOf, isOf}
 use Rattle.refusals.specs.declared.phases.{Phase.the-variants.Fresh, Phase.the-variants.PreOpening}
@@ -56,7 +56,7 @@ controlReference s = s .reference
 
 -- Order: 1, 2, 4, 5, 6, 7, 8, 9, 10.
 abbrev pub orderChecks : Session → Entry → List Check
-orderChecks s e = orderRows (s .phase) (s .parameters) (controlReference s) (s .given) (countTaken (s .book .taken)) e
+orderChecks s e = orderRows (s .phase) (s .parameters) (controlReference s) (s .given) (isFull (s .book .taken)) e
 
 -- an accepted order takes the next number and the lowest free place
 abbrev pub bookWith : Book → OrderMade → Book

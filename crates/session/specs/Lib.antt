@@ -3,7 +3,6 @@ pub mod Entry
 pub mod Auctions
 pub mod Queues
 pub mod Sound
-pub mod Calls
 pub mod Changes
 pub mod QueueCalls
 pub mod AuctionCalls

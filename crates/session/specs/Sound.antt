@@ -76,8 +76,11 @@ started-sound s p sound = go (firstHit (startChecks s p)) refl
         }
 
 -- an order of this number and member rests, so that its place is found
-pub found-place : (s : Session) (number member : ℕ) → not (any (isOf number member) (resting (s .book))) ≡ false → placeOf (isOf number member) (s .book) < places
+found-place : (s : Session) (number member : ℕ) → not (any (isOf number member) (resting (s .book))) ≡ false → placeOf (isOf number member) (s .book) < places
 found-place s number member h = ltb-true (placeOf (isOf number member) (s .book)) places (sym (any-resting (isOf number member) (s .book)) ∙ not-false _ h)
+
+pub delete-room : (s : Session) (number member : ℕ) → firstHit (deleteChecks s number member) ≡ 0 → placeOf (isOf number member) (s .book) < places
+delete-room s number member h = let (h1, (h2, (h11, rest))) = none-hit (deleteChecks s number member) tt .0 h in found-place s number member h11
 
 -- What an accepted entry is known to have.
 pub record Accepted (s : Session) (e : Entry) : Type 0 where
@@ -146,12 +149,11 @@ deleted-sound s number member sound = go (firstHit (deleteChecks s number member
     go : (n : ℕ) → firstHit (deleteChecks s number member) ≡ n → Sound (deleteAnswer n s number member .session)
     go (suc n) h = sound
     go zero h =
-        let (h1, (h2, (h11, rest))) = none-hit (deleteChecks s number member) tt .0 h in
-        let there : placeOf (isOf number member) (s .book) < places = found-place s number member h11 in
+        let (h1, (h2, rest)) = none-hit (deleteChecks s number member) tt .0 h in
         record {
           fresh = λ i. absurd (rw i at (test-holds (hasStarted (s .phase)) h2));
           parameters-hold = sound .parameters-hold;
           reference-holds = sound .reference-holds;
           numbers-left = sound .numbers-left;
-          book-sound = cleared-sound (s .parameters .step) (s .given) (s .book) (sound .book-sound) (placeOf (isOf number member) (s .book)) there;
+          book-sound = cleared-sound (s .parameters .step) (s .given) (s .book) (sound .book-sound) (placeOf (isOf number member) (s .book)) (delete-room s number member h);
         }

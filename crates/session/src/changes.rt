@@ -44,13 +44,13 @@ pub fn order_effect(
 ) -> Effect
     ensures { λ r. ⌜ r ≡ orderEffect phase parameters reference given (now (taken .entry)) e ⌝ }
 {
-    let words = *taken;
+    let place = places::lowest_free(taken);
     let answer = refusals::order_refusal(
         phase,
         parameters,
         reference,
         given,
-        places::count_taken(words),
+        !Place::holds(place),
         e,
     );
     if answer != 0 {
@@ -61,8 +61,7 @@ pub fn order_effect(
         // Never: an entry that is not refused has its fields in range.
         return Effect::Refused(1);
     };
-    let place = places::lowest_free(words);
-    let word = with_bit(words[place / WORD_PLACES], place % WORD_PLACES);
+    let word = with_bit(taken[place / WORD_PLACES], place % WORD_PLACES);
     Effect::Done(Change {
         given: number,
         place,
@@ -71,19 +70,17 @@ pub fn order_effect(
     })
 }
 
-// Delete: refusals 1, 2, 11. The place is free at once.
-pub fn delete_effect<'a>(
+// Delete: refusals 1, 2, 11. The order asked for stands at the place, or nowhere; its place is free at once.
+pub fn delete_effect(
     phase: Phase,
     given: u32,
-    taken: &'a [u64; WORDS],
-    numbers: &'a [u32; Place::COUNT],
-    members: &'a [u16; Place::COUNT],
+    taken: &[u64; WORDS],
+    place: usize,
     number: u32,
     member: u16,
 ) -> Effect
-    ensures { λ r. ⌜ r ≡ deleteEffect phase given (now (taken .entry)) (now (numbers .entry)) (now (members .entry)) number member ⌝ }
+    ensures { λ r. ⌜ r ≡ deleteEffect phase given (now (taken .entry)) place number member ⌝ }
 {
-    let place = book::place_of(taken, numbers, members, number, member);
     let answer = refusals::delete_refusal(phase, number, member, place);
     if answer != 0 {
         return Effect::Refused(answer);

@@ -169,15 +169,14 @@ impl Session {
         ensures { λ r. ⌜ r ≡ Entry·deleted self number member ⌝ }
     {
         let phase = self.phase;
-        let effect = delete_effect(
-            phase,
-            self.given,
+        let place = book::place_of(
             &self.book.taken,
             &self.book.number,
             &self.book.member,
             number,
             member,
         );
+        let effect = delete_effect(phase, self.given, &self.book.taken, place, number, member);
         match effect {
             Effect::Refused(answer) => Deleted {
                 answer,

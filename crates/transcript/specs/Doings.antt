@@ -9,25 +9,28 @@ use Rattle.terms.specs.declared.parameters.{Parameters.Parameters}
 use Rattle.refusals.specs.declared.phases.{Phase.Phase}
 use Rattle.session.specs.declared.{Session.Session, Entered.Entered, Deleted.Deleted}
 use Rattle.session.specs.declared.changes.{Change.Change, Effect.Effect}
+use Rattle.book.specs.Resting.{placeIn}
 use Rattle.session.specs.Entry.{entered, deleted}
 use Rattle.session.specs.Changes.{changed, orderEffect, deleteEffect, orderIn, deleteIn, enteredBy, deletedBy, entered-by, deleted-by, order-place, delete-place}
 use Rattle.records.specs.declared.{Record.Record, Deletion.Deletion}
-use Rattle.lines.specs.declared.{Answer.Answer}
-use Rattle.transcript.specs.declared.{Doing.Doing}
+use Rattle.lines.specs.declared.{Answer.Answer, Done.Done}
+use Rattle.lines.specs.Line.{answerOf}
+use Rattle.transcript.specs.declared.{Doing.Doing, Stepped.Stepped}
 use Rattle.transcript.specs.Transcript.{Step, step, orderStep, deleteStep}
+use Rattle.transcript.specs.Steps.{WroteStep}
 
 abbrev pub orderDoing : Effect → Doing
 orderDoing (Effect.Refused n) = Doing.Refused (Answer.Order n 0)
-orderDoing (Effect.Done c) = Doing.Done (Answer.Order 0 (c .given)) c
+orderDoing (Effect.Done c) = Doing.Done Done.Order c
 
 abbrev pub deleteDoing : Effect → Doing
 deleteDoing (Effect.Refused n) = Doing.Refused (Answer.Delete n)
-deleteDoing (Effect.Done c) = Doing.Done (Answer.Delete 0) c
+deleteDoing (Effect.Done c) = Doing.Done Done.Delete c
 
 abbrev pub doingOf : Record → Phase → Parameters → ℕ → ℕ → List ℕ → List ℕ → List ℕ → Doing
 doingOf (Record.Start p) phase parameters reference given taken numbers members = Doing.Start p
 doingOf (Record.Order e) phase parameters reference given taken numbers members = orderDoing (orderEffect phase parameters reference given taken e)
-doingOf (Record.Delete d) phase parameters reference given taken numbers members = deleteDoing (deleteEffect phase given taken numbers members (d .number) (d .member))
+doingOf (Record.Delete d) phase parameters reference given taken numbers members = deleteDoing (deleteEffect phase given taken (placeIn taken numbers members (d .number) (d .member) 0 places) (d .number) (d .member))
 doingOf (Record.Auction which) phase parameters reference given taken numbers members = Doing.Auction which
 
 abbrev pub doingIn : Session → Record → Doing
@@ -40,7 +43,7 @@ quiet s a = record { session = s; answer = a; trades = [] }
 -- by what it does
 abbrev pub Does : Session → Record → Doing → Type 0
 Does s r (Doing.Refused a) = quiet s a ≡ step s r
-Does s r (Doing.Done a c) = (quiet (changed s c) a ≡ step s r) × (c .place < places)
+Does s r (Doing.Done d c) = (quiet (changed s c) (answerOf d (c .given)) ≡ step s r) × (c .place < places)
 Does s r (Doing.Start p) = r ≡ Record.Start p
 Does s r (Doing.Auction which) = r ≡ Record.Auction which
 
@@ -51,7 +54,7 @@ does s (Record.Order e) = go (orderIn s e) (entered-by s e) (λ c h. order-place
   go : (f : Effect) → enteredBy s f ≡ entered s e → ((c : Change) → f ≡ Effect.Done c → c .place < places) → Does s (Record.Order e) (orderDoing f)
   go (Effect.Refused n) h p = ap orderStep h
   go (Effect.Done c) h p = (ap orderStep h, p c refl)
-does s (Record.Delete d) = go (deleteIn s (d .number) (d .member)) (deleted-by s (d .number) (d .member)) (λ c h. delete-place (s .phase) (s .given) (s .book .taken) (s .book .number) (s .book .member) (d .number) (d .member) h) where
+does s (Record.Delete d) = go (deleteIn s (d .number) (d .member)) (deleted-by s (d .number) (d .member)) (λ c h. delete-place (s .phase) (s .given) (s .book .taken) _ (d .number) (d .member) h) where
   go : (f : Effect) → deletedBy s f ≡ deleted s (d .number) (d .member) → ((c : Change) → f ≡ Effect.Done c → c .place < places) → Does s (Record.Delete d) (deleteDoing f)
   go (Effect.Refused n) h p = ap deleteStep h
   go (Effect.Done c) h p = (ap deleteStep h, p c refl)
@@ -60,3 +63,8 @@ does s (Record.Auction which) = refl
 -- .. found from the parts
 pub does-found : (s : Session) (r : Record) {d : Doing} → d ≡ doingIn s r → Does s r d
 does-found s r h = rw h (does s r)
+
+-- a record's lines are those of the record that it is
+pub wrote-as : (s : Session) (place at : ℕ) (old out : List ℕ) (done : Stepped) {r q : Record} → r ≡ q
+    → WroteStep place old out at done (step s q) → WroteStep place old out at done (step s r)
+wrote-as s place at old out done e w = rw e w

@@ -3,6 +3,7 @@ mod steps;
 mod tell;
 
 use lines::Answer;
+use lines::Done;
 use records::Record;
 use session::Change;
 use session::Session;
@@ -39,10 +40,10 @@ pub struct Telling {
     pub stop: Stop,
 }
 
-// What a record does: an answer with nothing or with a change at a place, or a call by value.
+// What a record does: an answer with nothing, or with a change at a place, or a call by value.
 pub enum Doing {
     Refused(Answer),
-    Done(Answer, Change),
+    Done(Done, Change),
     Start(Parameters),
     Auction(u8),
 }

@@ -1,7 +1,10 @@
 // What a record does: the call that it asks for, and its lines.
 use crate::Doing;
 use crate::Stepped;
+use book::HINTS;
+use book::place_by_hint;
 use lines::Answer;
+use lines::Done;
 use lines::line_of;
 use lines::trade_lines;
 use places::WORDS;
@@ -18,6 +21,7 @@ ghost use Prim.Native.Nat.{_+_, _≤_};
 ghost use lib.ListN.{length};
 ghost use Rattle.terms.specs.Bounds.{tradeListLength};
 ghost use Rattle.records.specs.declared.Record.the-variants.{Start, Auction as Auction·record};
+ghost use Rattle.book.specs.Hints.{Numbered};
 ghost use Rattle.session.specs.Sound.{Sound};
 ghost use Rattle.lines.specs.Lengths.{lineRoom};
 ghost use Rattle.transcript.specs.Transcript.{step};
@@ -29,7 +33,7 @@ fn order_doing(effect: Effect) -> Doing
 {
     match effect {
         Effect::Refused(answer) => Doing::Refused(Answer::Order(answer, 0)),
-        Effect::Done(c) => Doing::Done(Answer::Order(0, c.given), c),
+        Effect::Done(c) => Doing::Done(Done::Order, c),
     }
 }
 
@@ -38,11 +42,11 @@ fn delete_doing(effect: Effect) -> Doing
 {
     match effect {
         Effect::Refused(answer) => Doing::Refused(Answer::Delete(answer)),
-        Effect::Done(c) => Doing::Done(Answer::Delete(0), c),
+        Effect::Done(c) => Doing::Done(Done::Delete, c),
     }
 }
 
-// What a record does, from the parts of the session that decide it.
+// What a record does, from the parts of the session that decide it; hints only spare a deletion's search.
 pub(crate) fn doing_of<'a>(
     asked: Record,
     phase: Phase,
@@ -52,7 +56,9 @@ pub(crate) fn doing_of<'a>(
     taken: &'a [u64; WORDS],
     numbers: &'a [u32; Place::COUNT],
     members: &'a [u16; Place::COUNT],
+    hints: &'a [u16; HINTS],
 ) -> Doing
+    requires { ⌜ Numbered (now taken) (now numbers) given ⌝ }
     ensures { λ r. ⌜ r ≡ doingOf asked phase parameters reference given (now (taken .entry)) (now (numbers .entry)) (now (members .entry)) ⌝ }
 {
     match asked {
@@ -65,15 +71,10 @@ pub(crate) fn doing_of<'a>(
             taken,
             e,
         )),
-        Record::Delete(d) => delete_doing(delete_effect(
-            phase,
-            given,
-            taken,
-            numbers,
-            members,
-            d.number,
-            d.member,
-        )),
+        Record::Delete(d) => {
+            let place = place_by_hint(taken, numbers, members, hints, given, d.number, d.member);
+            delete_doing(delete_effect(phase, given, taken, place, d.number, d.member))
+        }
         Record::Auction(which) => Doing::Auction(which),
     }
 }

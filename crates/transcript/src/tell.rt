@@ -6,19 +6,22 @@ use crate::Telling;
 use crate::steps::auction_written;
 use crate::steps::doing_of;
 use crate::steps::start_written;
+use book::HINTS;
+use book::hint;
+use book::hint_all;
 use book::put8;
 use book::put16;
 use book::put32;
 use lines::LINE_ROOM;
 use lines::TRADE_ROOM;
+use lines::done_line;
 use lines::end_line;
 use lines::fault_line;
 use lines::line_of;
 use places::WORD_PLACES;
 use places::put_word;
-use records::Read;
-use records::needs_more;
-use records::record_at;
+use records::Piece;
+use records::piece_at;
 use session::Session;
 use trades::Trade;
 ghost use mathlib.Core.Path.{_≡_};
@@ -40,14 +43,12 @@ fn front(bytes: &[u8], place: usize, ended: bool, room: usize) -> Front
     if room < RECORD_ROOM {
         return Front::Stop(Stop::Full);
     }
-    if !ended & needs_more(bytes, place) {
-        return Front::Stop(Stop::Waits);
-    }
-    let read = record_at(bytes, place);
-    match read {
-        Read::Record(record, next) => Front::Record(record, next),
-        Read::Fault => Front::Stop(Stop::Fault),
-        Read::End => Front::Stop(Stop::End),
+    let piece = piece_at(bytes, place, ended);
+    match piece {
+        Piece::Record(record, next) => Front::Record(record, next),
+        Piece::Waits => Front::Stop(Stop::Waits),
+        Piece::Fault => Front::Stop(Stop::Fault),
+        Piece::End => Front::Stop(Stop::End),
     }
 }
 
@@ -63,18 +64,20 @@ fn records_told(
     requires { ⌜ Sound session × (length (now list) ≡ tradeListLength) × (answered + length (now bytes) < 2 ^ 64) ⌝ }
     ensures { λ r. ⌜ (haltOf r (now (out .exit)) ≡ recordsTold (length (now (out .entry))) ended (now (bytes .entry)) session answered) × (r .at ≤ length (now (out .entry))) × (now (out .exit) ≡ put (now (out .entry)) 0 (take (r .at) (now (out .exit)))) ⌝ }
 {
+    let mut hints = [0u16; HINTS];
+    hint_all(&mut hints, &session.book.number);
     let mut present = session;
     let mut count = answered;
     let mut place: usize = 0;
     let mut at: usize = 0;
     loop {
+        let phase = present.phase;
+        let parameters = present.parameters;
         let next = front(bytes, place, ended, out.len() - at);
         match next {
             Front::Record(record, behind) => {
                 count += 1;
                 place = behind;
-                let phase = present.phase;
-                let parameters = present.parameters;
                 let doing = doing_of(
                     record,
                     phase,
@@ -84,12 +87,13 @@ fn records_told(
                     &present.book.taken,
                     &present.book.number,
                     &present.book.member,
+                    &hints,
                 );
                 match doing {
                     Doing::Refused(answer) => {
                         at = line_of(out, at, count, answer);
                     }
-                    Doing::Done(answer, c) => {
+                    Doing::Done(done, c) => {
                         let spot = c.place;
                         let values = c.values;
                         present.given = c.given;
@@ -100,7 +104,8 @@ fn records_told(
                         put8(&mut present.book.validity, spot, values.validity);
                         put32(&mut present.book.left, spot, values.left);
                         put32(&mut present.book.limit, spot, values.limit);
-                        at = line_of(out, at, count, answer);
+                        hint(&mut hints, values.number, spot);
+                        at = done_line(out, at, count, done, c.given);
                     }
                     Doing::Start(p) => {
                         let r = start_written(present, p, count, out, at);

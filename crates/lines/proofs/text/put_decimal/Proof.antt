@@ -1,87 +1,113 @@
--- Invariant: `Shown`, the digits written and those still to come.
-use Prim.Native.Nat.{_-_}
-use Rattle.lines.specs.Decimal.{decimal-length, Shown, shown-start, shown-step, shown-end}
-use borrow.Author.Needs.{needs}
+-- A digit, a pair, or the hundreds and a pair; all others are `put_digits`.
+use Prim.Native.Nat.{_/_}
+use mathlib.Core.List.{[], _∷_}
+use Rattle.lines.specs.Text.{digit, pair}
+use Rattle.lines.specs.Decimal.{digits-small, digits-pair, hundreds-then}
 use native.Mathlib.Omega.{arith}
+use borrow.Author.Needs.{needs}
 use Rattle.lines.proofs.text.put_decimal.Statement.{statement}
 use Rattle.lines.proofs.text.put_decimal.Tie as tie
 
-abbrev Inv-loop : tie.InvT-loop
-Inv-loop out₀ at x n i₀ rest₀ out i rest = Shown x at out₀ out i rest
+cast-put-digit : tie.Need-cast-put-digit
+cast-put-digit c = search needs
 
-abbrev μ-loop : tie.MeasureT-loop
-μ-loop out₀ at x n i₀ rest₀ out i rest = i
+put-digit-requires : tie.Need-put-digit-requires
+put-digit-requires c κs = search needs
 
-count-digits-requires : tie.Need-count-digits-requires Inv-loop μ-loop
-count-digits-requires c κs = search needs
+same-length : tie.Need-same-length
+same-length c = search needs
 
-loop-holds : tie.Need-loop-holds Inv-loop μ-loop
-loop-holds c = shown-start (c .before .before .args .x) (c .before .before .args .at) (c .count-digits .result) (c .before .before .args .out .now) (c .before .before .pre) (c .count-digits .ensures)
+returns : tie.Need-returns
+returns c = rw (digits-small 19 _ (c .before .before .before .before .if1 .taken)) (c .before .before .put-digit .ensures)
 
-sub-i : tie.Need-sub-i Inv-loop μ-loop
-sub-i c = search needs
+cast-put-pair : tie.Need-cast-put-pair
+cast-put-pair c = search needs
 
-cast-out : tie.Need-cast-out Inv-loop μ-loop
-cast-out c = search needs
+put-pair-requires : tie.Need-put-pair-requires
+put-pair-requires c κs = search needs
 
-add-out : tie.Need-add-out Inv-loop μ-loop
-add-out c = search needs
+same-length-2 : tie.Need-same-length-2
+same-length-2 c = search needs
 
-add-out-2 : tie.Need-add-out-2 Inv-loop μ-loop
-add-out-2 c =
-    let start = c .before .before .before .before in
-    let a = start .args in
-    let good = c .before .before .before .before .good in
-    omega (arith, c .before .loop .inv .0, decimal-length (a .x), start .pre, good)
+returns-2 : tie.Need-returns-2
+returns-2 c =
+    let pair = c .before .before in
+    rw (digits-pair 18 _ (pair .before .before .before .if1 .left) (pair .before .before .if2 .taken)) (pair .put-pair .ensures)
 
-slice-write-out : tie.Need-slice-write-out Inv-loop μ-loop
-slice-write-out c =
-    let start = c .before .before .before .before in
-    let a = start .args in
-    omega (arith, c .before .loop .inv .0, c .before .loop .inv .1, decimal-length (a .x), start .pre)
+cast-y : tie.Need-cast-y
+cast-y c = search needs
 
-loop-less : tie.Need-loop-less Inv-loop μ-loop
-loop-less c = omega (arith, c .loop-test .taken)
+put-digit-requires-2 : tie.Need-put-digit-requires-2
+put-digit-requires-2 c κs = search needs
 
-loop-again : tie.Need-loop-again Inv-loop μ-loop
-loop-again c =
-    let l = c .before in
-    let a = l .before .before .before in
-    shown-step (a .args .x) (a .args .at) (l .loop .i) (l .loop .i - 1) (l .loop .rest) (a .args .out .now) (l .loop .out) (a .pre) (omega (arith, c .loop-test .taken)) (l .loop .inv)
+put-pair-requires-2 : tie.Need-put-pair-requires-2
+put-pair-requires-2 c κs = search needs
 
-add-result : tie.Need-add-result Inv-loop μ-loop
-add-result c =
-    let start = c .before .before .before .before in
-    let a = start .args in
-    let good = c .before .before .before .before .good in
-    omega (arith, decimal-length (a .x), start .pre, c .before .before .count-digits .ensures, good)
+same-length-3 : tie.Need-same-length-3
+same-length-3 c = search needs
 
-same-length : tie.Need-same-length Inv-loop μ-loop
-same-length c = c .before .loop .inv .1
+returns-3 : tie.Need-returns-3
+returns-3 c =
+    let one = c .before .before .before .before .before .before in
+    let case = one .before .before in
+    let s = case .before .before .before .before in
+    let q = s .args .x / 100 in
+    hundreds-then _ _ _ _ _ _ (s .args .x) (digit q ∷ []) (omega (arith, s .pre)) (case .before .if2 .left)
+    (digits-small 17 q (omega (arith, case .if3 .taken))) (one .put-digit2 .ensures) (c .before .before .put-pair2 .ensures)
 
-returns : tie.Need-returns Inv-loop μ-loop
-returns c =
-    let l = c .before in
-    let a = l .before .before .before in (
-      omega (arith, l .before .count-digits .ensures),
-      shown-end (a .args .x) (a .args .at) (l .loop .i) (l .loop .rest) (a .args .out .now) (l .loop .out) (omega (arith, c .loop-test .left)) (l .loop .inv),
-    )
+cast-y-2 : tie.Need-cast-y-2
+cast-y-2 c = search needs
+
+put-pair-requires-3 : tie.Need-put-pair-requires-3
+put-pair-requires-3 c κs = search needs
+
+put-pair-requires-4 : tie.Need-put-pair-requires-4
+put-pair-requires-4 c κs = search needs
+
+same-length-4 : tie.Need-same-length-4
+same-length-4 c = search needs
+
+returns-4 : tie.Need-returns-4
+returns-4 c =
+    let one = c .before .before .before .before .before .before in
+    let case = one .before .before in
+    let s = case .before .before .before .before .before in
+    let q = s .args .x / 100 in
+    hundreds-then _ _ _ _ _ _ (s .args .x) (pair q) (omega (arith, s .pre)) (case .before .before .if2 .left)
+    (digits-pair 16 q (omega (arith, case .before .if3 .left)) (omega (arith, case .if4 .taken)))
+    (one .put-pair3 .ensures) (c .before .before .put-pair4 .ensures)
+
+put-digits-requires : tie.Need-put-digits-requires
+put-digits-requires c κs = search needs
+
+same-length-5 : tie.Need-same-length-5
+same-length-5 c = search needs
+
+returns-5 : tie.Need-returns-5
+returns-5 c = search needs
 
 pub put-decimal-spec : {M : Type 1} → statement M
 put-decimal-spec =
     tie.close
     (tie.spec
-    Inv-loop
-    μ-loop
-    count-digits-requires
-    loop-holds
-    sub-i
-    cast-out
-    add-out
-    add-out-2
-    slice-write-out
-    loop-less
-    loop-again
-    add-result
+    cast-put-digit
+    put-digit-requires
     same-length
-    returns)
+    returns
+    cast-put-pair
+    put-pair-requires
+    same-length-2
+    returns-2
+    cast-y
+    put-digit-requires-2
+    put-pair-requires-2
+    same-length-3
+    returns-3
+    cast-y-2
+    put-pair-requires-3
+    put-pair-requires-4
+    same-length-4
+    returns-4
+    put-digits-requires
+    same-length-5
+    returns-5)

@@ -1,87 +1,58 @@
-use mathlib.Core.Path.{sym, _∙_}
-use denote.Ref.{now}
+use mathlib.Core.Path.{sym, ap, _∙_}
 use borrow.Author.Needs.{needs}
 use native.Mathlib.Omega.{arith}
-use Rattle.records.specs.Reads.{read-end, read-fault, record-made, good-record}
+use Rattle.records.specs.Reads.{read-end, read-short}
+use Rattle.records.specs.Headers.{headerRead, read-header}
 use Rattle.records.proofs.walk.record_at.Statement.{statement}
 use Rattle.records.proofs.walk.record_at.Tie as tie
 
 returns : tie.Need-returns
 returns c = sym (read-end _ _ (c .if1 .taken))
 
-is-faulty-requires : tie.Need-is-faulty-requires
-is-faulty-requires c κs = search needs
+sub-if2 : tie.Need-sub-if2
+sub-if2 c = search needs
 
 returns-2 : tie.Need-returns-2
-returns-2 c = sym (read-fault _ _ (c .before .before .if1 .left) (sym (c .before .is-faulty .ensures) ∙ c .if2 .taken))
+returns-2 c = sym (read-short _ _ (c .before .if1 .left) (omega arith))
 
-add-two : tie.Need-add-two
-add-two c = search needs
+header-at-requires : tie.Need-header-at-requires
+header-at-requires c κs = search needs
 
-two-requires : tie.Need-two-requires
-two-requires c κs = search needs
+enum-known-record : tie.Need-enum-known-record
+enum-known-record c = search needs
 
-two-requires-2 : tie.Need-two-requires-2
-two-requires-2 c κs = search needs
+enum-told : tie.Need-enum-told
+enum-told c = search needs
 
-cast-next : tie.Need-cast-next
-cast-next c = search needs
-
-add-next : tie.Need-add-next
-add-next c = search needs
-
-add-record-of : tie.Need-add-record-of
-add-record-of c = search needs
-
-sub-record-of : tie.Need-sub-record-of
-sub-record-of c =
-    let is-faulty = c .before .before .before .is-faulty in
-    let a = c .before .before .before .before .before .before .args in
-    let good = good-record (now (a .bytes)) (a .place) (sym (is-faulty .ensures) ∙ c .before .before .if2 .left) in
-    omega (arith, c .two2 .ensures, good)
-
-part-record-of-start : tie.Need-part-record-of-start
-part-record-of-start c =
-    let is-faulty = c .before .before .before .is-faulty in
-    let a = c .before .before .before .before .before .before .args in
-    let good = good-record (now (a .bytes)) (a .place) (sym (is-faulty .ensures) ∙ c .before .before .if2 .left) in
-    omega (arith, c .two2 .ensures, good)
-
-part-record-of-end : tie.Need-part-record-of-end
-part-record-of-end c =
-    let is-faulty = c .before .before .before .is-faulty in
-    let a = c .before .before .before .before .before .before .args in
-    let good = good-record (now (a .bytes)) (a .place) (sym (is-faulty .ensures) ∙ c .before .before .if2 .left) in
-    omega (arith, c .two2 .ensures, good)
-
-record-of-requires : tie.Need-record-of-requires
-record-of-requires c κs = search needs
+enum-told-2 : tie.Need-enum-told-2
+enum-told-2 c = search needs
 
 returns-3 : tie.Need-returns-3
 returns-3 c =
-    let if1 = c .before .before .before .before .before .before .if1 in
-    let is-faulty = c .before .before .before .before .before .is-faulty in
-    let if2 = c .before .before .before .before .if2 in
-    let two = c .before .before .before .two in
-    record-made _ _ (if1 .left)
-    (sym (is-faulty .ensures) ∙ if2 .left)
-    (two .ensures) (c .before .before .two2 .ensures) (c .record-of .ensures)
+    let header-at = c .before .before .before .header-at in
+    ap headerRead (sym (c .before .«record» .given .1) ∙ header-at .ensures) ∙ read-header _ _ (omega arith)
+
+returns-4 : tie.Need-returns-4
+returns-4 c =
+    let header-at = c .before .before .header-at in
+    ap headerRead (sym (c .enum-told .given .1) ∙ header-at .ensures) ∙ read-header _ _ (omega arith)
+
+returns-5 : tie.Need-returns-5
+returns-5 c =
+    let header-at = c .before .before .header-at in
+    ap headerRead (sym (c .enum-told2 .given .1) ∙ header-at .ensures) ∙ read-header _ _ (omega arith)
 
 pub record-at-spec : {M : Type 1} → statement M
 record-at-spec =
     tie.close
     (tie.spec
     returns
-    is-faulty-requires
+    sub-if2
     returns-2
-    add-two
-    two-requires
-    two-requires-2
-    cast-next
-    add-next
-    add-record-of
-    sub-record-of
-    part-record-of-start
-    part-record-of-end
-    record-of-requires
-    returns-3)
+    header-at-requires
+    enum-known-record
+    enum-told
+    enum-told-2
+    returns-3
+    returns-4
+    returns-5)

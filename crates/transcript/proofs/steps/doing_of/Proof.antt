@@ -1,4 +1,3 @@
-use native.Mathlib.Omega.{arith}
 use borrow.Author.Needs.{needs}
 use Rattle.transcript.proofs.steps.doing_of.Statement.{statement}
 use Rattle.transcript.proofs.steps.doing_of.Tie as tie
@@ -18,6 +17,9 @@ order-doing-requires c κs = search needs
 enum-known-asked-3 : tie.Need-enum-known-asked-3
 enum-known-asked-3 c = search needs
 
+place-by-hint-requires : tie.Need-place-by-hint-requires
+place-by-hint-requires c κs = search needs
+
 delete-effect-requires : tie.Need-delete-effect-requires
 delete-effect-requires c κs = search needs
 
@@ -34,7 +36,7 @@ returns-2 : tie.Need-returns-2
 returns-2 c = rw (c .before .before .before .asked2 .given .1) (rw (c .before .order-effect .ensures) at (c .order-doing .ensures))
 
 returns-3 : tie.Need-returns-3
-returns-3 c = rw (c .before .before .before .asked3 .given .1) (rw (c .before .delete-effect .ensures) at (c .delete-doing .ensures))
+returns-3 c = rw (c .before .before .before .before .asked3 .given .1) (rw (c .before .delete-effect .ensures, c .before .before .place-by-hint .ensures) at (c .delete-doing .ensures))
 
 returns-4 : tie.Need-returns-4
 returns-4 c = rw (c .before .asked4 .given .1)
@@ -48,6 +50,7 @@ doing-of-spec =
     order-effect-requires
     order-doing-requires
     enum-known-asked-3
+    place-by-hint-requires
     delete-effect-requires
     delete-doing-requires
     enum-known-asked-4
