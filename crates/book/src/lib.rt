@@ -25,12 +25,12 @@ pub struct Book {
     pub limit: [u32; Place::COUNT],
 }
 
-// What the columns hold at a place.
+// What the columns hold at a place, the wide ones first: so a change travels in registers.
 pub struct Values {
     pub number: u32,
+    pub left: u32,
+    pub limit: u32,
     pub member: u16,
     pub side: u8,
     pub validity: u8,
-    pub left: u32,
-    pub limit: u32,
 }
