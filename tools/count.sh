@@ -16,24 +16,21 @@ fail() {
 
 # shellcheck source=tools/x86.sh
 . "$(dirname "$0")/x86.sh"
-# Not by x86, whose emulator is told to copy otherwise than the machine would.
-if [ "$machine" = x86_64 ]; then
-    set -- "$program"
-else
-    set -- "$tools/lib/ld-linux-x86-64.so.2" --library-path "$tools/lib" "$program"
-fi
 
 if [ -z "$emulator" ]; then
     [ -z "$erms" ] || fail "no qemu-x86_64, in the kit or on the PATH: nothing here can be told $erms"
     [ "$machine" = x86_64 ] || fail "no qemu-x86_64, in the kit or on the PATH: nothing here runs an x86-64 program"
     command -v valgrind >/dev/null || fail "neither qemu-x86_64 nor valgrind is on the PATH: nothing here counts instructions"
     echo "count: by valgrind, for want of qemu-x86_64: each turn of a string move counts, and its bytes are not told apart" >&2
-    n=$(valgrind --tool=callgrind --callgrind-out-file=/dev/null "$@" <"$in" 2>&1 >/dev/null | sed -n 's/.*Collected : *//p')
+    n=$(valgrind --tool=callgrind --callgrind-out-file=/dev/null "$program" <"$in" 2>&1 >/dev/null | sed -n 's/.*Collected : *//p')
     [ -n "$n" ] || fail "valgrind counted nothing"
     echo "$n -"
     exit
 fi
 
+# With the kit's loader and C library, so that a count is not the machine's. Not by x86, whose emulator is told to copy otherwise than a machine would.
+[ -x "$tools/lib/ld-linux-x86-64.so.2" ] || fail "the kit has no $tools/lib/ld-linux-x86-64.so.2: nothing here runs a program with its C library"
+set -- "$tools/lib/ld-linux-x86-64.so.2" --library-path "$tools/lib" "$program"
 case $erms in
 --erms) set -- -cpu max "$@" ;;
 --no-erms)

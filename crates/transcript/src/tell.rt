@@ -52,7 +52,8 @@ fn front(bytes: &[u8], place: usize, ended: bool, room: usize) -> Front
     }
 }
 
-// The records, one by one.
+// The records, one by one. One session stands through all of them, and a change is stored in it here, column by column: the kit lends one
+// column to a call, and a session by value would be copied for each record.
 fn records_told(
     session: Session,
     answered: u64,
@@ -71,6 +72,7 @@ fn records_told(
     let mut place: usize = 0;
     let mut at: usize = 0;
     loop {
+        // Read here, so that nothing stands between a record and what it does.
         let phase = present.phase;
         let parameters = present.parameters;
         let next = front(bytes, place, ended, out.len() - at);
