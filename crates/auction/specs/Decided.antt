@@ -7,7 +7,8 @@ use mathlib.Core.List.{List}
 use native.Mathlib.Omega.{arith}
 use borrow.Author.Tests.{eq-eqb, ne-eqb}
 use lib.Dec.{eqb, ltb}
-use Rattle.terms.specs.declared.orders.{Side.the-variants.Buy, Side.the-variants.Sell, Auction.Auction, Auction.the-variants.Opening, Auction.the-variants.Closing, Order.Order}
+use Rattle.terms.specs.Orders.{Resting}
+use Rattle.terms.specs.declared.orders.{Side.the-variants.Buy, Side.the-variants.Sell, Auction.Auction, Auction.the-variants.Opening, Auction.the-variants.Closing}
 use Rattle.price.specs.declared.search.{Found.Found}
 use Rattle.price.specs.Candidates.{mostExecutable}
 use Rattle.price.specs.Chain.{auctionPrice, price-some, price-most, no-price-most}
@@ -24,14 +25,14 @@ outcomeFrom a delayed threshold reference found buys sells =
     (cond (eqb (found .most) 0) NoTrade
     (cond (delays a delayed threshold reference (found .price)) (Delayed (found .price) (found .most)) (Traded (found .price) (found .most))))
 
-prevented-same : (a : Auction) (reference : ℕ) (book : List Order) {most buys sells : ℕ} → most ≡ mostExecutable reference book → buys ≡ unlimited Buy book → sells ≡ unlimited Sell book
+prevented-same : (a : Auction) (reference : ℕ) (book : List Resting) {most buys sells : ℕ} → most ≡ mostExecutable reference book → buys ≡ unlimited Buy book → sells ≡ unlimited Sell book
     → preventedBy a most buys sells ≡ prevented a reference book
 unfolding nonOpening
 prevented-same Opening reference book m e f = rw (m, e, f)
 prevented-same Closing reference book m e f = refl
 
 -- Where that is what the book has, the outcome is the book's.
-module _ (a : Auction) (delayed : Bool) (threshold reference : ℕ) (book : List Order) (found : Found) where
+module _ (a : Auction) (delayed : Bool) (threshold reference : ℕ) (book : List Resting) (found : Found) where
   priced-same : found .most ≡ mostExecutable reference book → (0 < mostExecutable reference book → auctionPrice reference book ≡ some (found .price))
       → (r : Option ℕ) → auctionPrice reference book ≡ r
       → cond (eqb (found .most) 0) NoTrade (cond (delays a delayed threshold reference (found .price)) (Delayed (found .price) (found .most)) (Traded (found .price) (found .most)))

@@ -6,7 +6,8 @@ use mathlib.Core.Path.{_≡_, refl}
 use mathlib.Core.List.{List, [], _∷_}
 use Rattle.lists.specs.Sums.{apart}
 use Rattle.terms.specs.Samples.{order, buy, sell, buyAny}
-use Rattle.terms.specs.declared.orders.{Side.the-variants.Buy, Validity.the-variants.AtOpening, Validity.the-variants.AtClose, Validity.the-variants.Day, Validity.the-variants.LaterDay, Auction.Auction, Auction.the-variants.Opening, Auction.the-variants.Closing, Limit.the-variants.At, Order.Order}
+use Rattle.terms.specs.Orders.{Resting}
+use Rattle.terms.specs.declared.orders.{Side.the-variants.Buy, Validity.the-variants.AtOpening, Validity.the-variants.AtClose, Validity.the-variants.Day, Validity.the-variants.LaterDay, Auction.Auction, Auction.the-variants.Opening, Auction.the-variants.Closing, Limit.the-variants.At}
 use Rattle.queue.specs.Rank.{ranked}
 use Rattle.price.specs.Interest.{interest}
 use Rattle.price.specs.Candidates.{mostExecutable}
@@ -23,7 +24,7 @@ unfolding apart interest mostExecutable auctionPrice ranked fills tradesOf trade
 computing = tt
 
 -- threshold 150, reference 100,000
-abbrev outcomeOn : Auction → Bool → List Order → Outcome
+abbrev outcomeOn : Auction → Bool → List Resting → Outcome
 outcomeOn a delayed book = outcome a delayed 150 100_000 book
 
 -- an unlimited order that stays unfilled prevents an opening, and not a closing
@@ -58,7 +59,7 @@ unfolding computing
 nothing = refl
 
 -- the trades of the worked file: order 2 has the better limit, then order 1 the lower number
-abbrev workedBook : List Order
+abbrev workedBook : List Resting
 workedBook = buy 1 50 100_200 ∷ buy 2 50 100_400 ∷ buy 3 50 100_200 ∷ sell 4 80 100_200 ∷ []
 
 abbrev trade : ℕ → ℕ → ℕ → Trade

@@ -7,7 +7,8 @@ use native.Mathlib.Omega.{arith}
 use lib.Dec.{T}
 use Rattle.lists.specs.Tests.{and-both}
 use Rattle.lists.specs.Sums.{_∈_, counted, sum-less, sum-map, sum-same}
-use Rattle.terms.specs.declared.orders.{Side.Side, Side.the-variants.Buy, Side.the-variants.Sell, Order.Order}
+use Rattle.terms.specs.Orders.{Resting}
+use Rattle.terms.specs.declared.orders.{Side.Side, Side.the-variants.Buy, Side.the-variants.Sell}
 use Rattle.queue.specs.Sides.{allows, sameSide-eq}
 use Rattle.queue.specs.Distinct.{Distinct}
 use Rattle.queue.specs.Rank.{onSide}
@@ -16,15 +17,15 @@ use Rattle.trades.specs.Trades.{traded}
 use Rattle.trades.specs.Fills.{tradesOf, allows-front, traded-front, trades-possible}
 use Rattle.auction.specs.After.{remaining}
 
-module _ (p quantity : ℕ) (book : List Order) (d : Distinct book) (enough : (s : Side) → quantity ≤ interest s p book) where
+module _ (p quantity : ℕ) (book : List Resting) (d : Distinct book) (enough : (s : Side) → quantity ≤ interest s p book) where
   -- what an order that accepts q has, and what it trades
-  had : Side → ℕ → Order → ℕ
+  had : Side → ℕ → Resting → ℕ
   had s q o = counted (accepts s q o) (o .left)
 
-  gave : Side → ℕ → Order → ℕ
+  gave : Side → ℕ → Resting → ℕ
   gave s q o = counted (accepts s q o) (traded s (o .number) (tradesOf quantity book))
 
-  gave-le-had : (s : Side) (q : ℕ) (o : Order) → o ∈ book → gave s q o ≤ had s q o
+  gave-le-had : (s : Side) (q : ℕ) (o : Resting) → o ∈ book → gave s q o ≤ had s q o
   unfolding had gave
   gave-le-had s q o m = go (accepts s q o) (λ a. sameSide-eq s (o .side) (and-both (onSide s o) _ a .0))
     where
@@ -32,7 +33,7 @@ module _ (p quantity : ℕ) (book : List Order) (d : Distinct book) (enough : (s
       go true e = rw (e tt) (trades-possible p quantity book d enough .fits o m)
       go false e = omega arith
 
-  keeps : (s : Side) (q : ℕ) (o : Order) → counted (accepts s q o) (remaining (tradesOf quantity book) o .left) ≡ had s q o - gave s q o
+  keeps : (s : Side) (q : ℕ) (o : Resting) → counted (accepts s q o) (remaining (tradesOf quantity book) o .left) ≡ had s q o - gave s q o
   unfolding had gave
   keeps s q o = go (accepts s q o) (λ a. sameSide-eq s (o .side) (and-both (onSide s o) _ a .0))
     where

@@ -9,7 +9,8 @@ use lib.Dec.{T, eqb, eqb→eq, ltb}
 use Rattle.lists.specs.Tests.{tests, and-both, and-intro, or-cases, decided}
 use Rattle.lists.specs.Sums.{_∈_, counted, counted-pass, sum, sum-each, sum-mono, sum-swap}
 use Rattle.lists.specs.Choice.{highest-at}
-use Rattle.terms.specs.declared.orders.{Side.Side, Side.the-variants.Buy, Side.the-variants.Sell, Limit.Limit, Limit.the-variants.Unlimited, Limit.the-variants.At, Order.Order}
+use Rattle.terms.specs.Orders.{Resting}
+use Rattle.terms.specs.declared.orders.{Side.Side, Side.the-variants.Buy, Side.the-variants.Sell, Limit.Limit, Limit.the-variants.Unlimited, Limit.the-variants.At}
 use Rattle.queue.specs.Sides.{isUnlimited, sameSide-eq, sameSide-refl}
 use Rattle.queue.specs.Distinct.{Distinct, distinct-sum}
 use Rattle.queue.specs.Rank.{onSide, betterLimit, ahead-limit, ranked, ranked-in-order}
@@ -22,11 +23,11 @@ use Rattle.trades.specs.Fills.{tradesOf, traded-front, trades-possible}
 use Rattle.auction.specs.Outcome.{unlimited, nonOpening}
 
 -- each unlimited order trades all that it has open
-abbrev pub AllFilled : List Order → List Trade → Type 0
-AllFilled book trades = (o : Order) → o ∈ book → T (isUnlimited (o .limit)) → traded (o .side) (o .number) trades ≡ o .left
+abbrev pub AllFilled : List Resting → List Trade → Type 0
+AllFilled book trades = (o : Resting) → o ∈ book → T (isUnlimited (o .limit)) → traded (o .side) (o .number) trades ≡ o .left
 
 -- the orders of a side trade no more than the volume
-traded-le-volume : (s : Side) (book : List Order) (trades : List Trade) → Distinct book → sum (λ o. traded s (o .number) trades) book ≤ volume trades
+traded-le-volume : (s : Side) (book : List Resting) (trades : List Trade) → Distinct book → sum (λ o. traded s (o .number) trades) book ≤ volume trades
 unfolding traded
 traded-le-volume s book trades d = omega (
   arith,
@@ -36,10 +37,10 @@ traded-le-volume s book trades d = omega (
 )
 
 -- so what is filled is within the highest executable quantity
-filled-within : (reference p : ℕ) (book : List Order) (trades : List Trade) → Distinct book → TradeList p book trades → AllFilled book trades → (s : Side) → unlimited s book ≤ mostExecutable reference book
+filled-within : (reference p : ℕ) (book : List Resting) (trades : List Trade) → Distinct book → TradeList p book trades → AllFilled book trades → (s : Side) → unlimited s book ≤ mostExecutable reference book
 filled-within reference p book trades d possible filled s = omega (arith, each, traded-le-volume s book trades d, volume-le-most reference p book trades possible)
   where
-    one : (o : Order) → o ∈ book → (b : Bool) → (T b → T (onSide s o) × T (isUnlimited (o .limit))) → counted b (o .left) ≤ traded s (o .number) trades
+    one : (o : Resting) → o ∈ book → (b : Bool) → (T b → T (onSide s o) × T (isUnlimited (o .limit))) → counted b (o .left) ≤ traded s (o .number) trades
     one o m true h = rw (sameSide-eq s (o .side) (h tt .0), filled o m (h tt .1)) (omega arith)
     one o m false h = omega arith
 
@@ -52,25 +53,25 @@ unlimited-first s Unlimited w h k = tt
 unlimited-first s (At v) Unlimited h k = absurd h
 unlimited-first s (At v) (At w) h k = k
 
-pub unlimited-front : (s : Side) (book : List Order) → Distinct book → FrontPart (λ o. isUnlimited (o .limit)) (ranked s book)
+pub unlimited-front : (s : Side) (book : List Resting) → Distinct book → FrontPart (λ o. isUnlimited (o .limit)) (ranked s book)
 unlimited-front s book d =
     ranked-front s (λ o. isUnlimited (o .limit)) (λ a b h k. unlimited-first s (a .limit) (b .limit) (ahead-limit s a b h) k) (ranked s book) (ranked-in-order s book d)
 
 -- a quantity that covers the unlimited orders fills each of them
-fills-all : (p quantity : ℕ) (book : List Order) → Distinct book → ((s : Side) → quantity ≤ interest s p book) → ((s : Side) → unlimited s book ≤ quantity) → AllFilled book (tradesOf quantity book)
+fills-all : (p quantity : ℕ) (book : List Resting) → Distinct book → ((s : Side) → quantity ≤ interest s p book) → ((s : Side) → unlimited s book ≤ quantity) → AllFilled book (tradesOf quantity book)
 fills-all p quantity book d enough covers o m u = omega (arith, trades-possible p quantity book d enough .fits o m, full)
   where
-    had : Order → ℕ
+    had : Resting → ℕ
     had x = counted (onSide (o .side) x && isUnlimited (x .limit)) (x .left)
 
-    gave : Order → ℕ
+    gave : Resting → ℕ
     gave x = counted (onSide (o .side) x && isUnlimited (x .limit)) (traded (o .side) (x .number) (tradesOf quantity book))
 
-    one : (x : Order) → x ∈ book → (b : Bool) → (T b → o .side ≡ x .side) → counted b (traded (o .side) (x .number) (tradesOf quantity book)) ≤ counted b (x .left)
+    one : (x : Resting) → x ∈ book → (b : Bool) → (T b → o .side ≡ x .side) → counted b (traded (o .side) (x .number) (tradesOf quantity book)) ≤ counted b (x .left)
     one x n true e = rw (e tt) (trades-possible p quantity book d enough .fits x n)
     one x n false e = omega arith
 
-    each : (x : Order) → x ∈ book → gave x ≤ had x
+    each : (x : Resting) → x ∈ book → gave x ≤ had x
     each x n = one x n (onSide (o .side) x && isUnlimited (x .limit)) (λ a. sameSide-eq (o .side) (x .side) (and-both (onSide (o .side) x) _ a .0))
 
     here : T (onSide (o .side) o && isUnlimited (o .limit))
@@ -85,10 +86,10 @@ fills-all p quantity book d enough covers o m u = omega (arith, trades-possible 
     )
 
 -- some trade list at some price fills every unlimited order
-abbrev pub Fillable : List Order → Type 0
+abbrev pub Fillable : List Resting → Type 0
 Fillable book = (p : ℕ) × (trades : List Trade) × TradeList p book trades × AllFilled book trades
 
-fillable-within : (reference : ℕ) (book : List Order) → Distinct book → Fillable book ↔ ((s : Side) → unlimited s book ≤ mostExecutable reference book)
+fillable-within : (reference : ℕ) (book : List Resting) → Distinct book → Fillable book ↔ ((s : Side) → unlimited s book ≤ mostExecutable reference book)
 unfolding mostExecutable
 fillable-within reference book d = (
   (λ (p, trades, possible, filled). filled-within reference p book trades d possible filled),
@@ -98,7 +99,7 @@ fillable-within reference book d = (
       (c, tradesOf (executable book c) book, trades-possible c (executable book c) book d enough, fills-all c (executable book c) book d enough (λ s. omega (arith, h s)))),
 )
 
-pub non-opening-exactly : (reference : ℕ) (book : List Order) → Distinct book → T (nonOpening reference book) ↔ (Fillable book → ⊥)
+pub non-opening-exactly : (reference : ℕ) (book : List Resting) → Distinct book → T (nonOpening reference book) ↔ (Fillable book → ⊥)
 unfolding nonOpening
 non-opening-exactly reference book d = (
   (λ h f. let within = fillable-within reference book d .0 f in

@@ -10,7 +10,8 @@ use lib.Dec.{T, leb, ltb}
 use lib.ListN.{length}
 use Rattle.lists.specs.Sums.{apart}
 use Rattle.terms.specs.Bounds.{hundredthsOfPercent}
-use Rattle.terms.specs.declared.orders.{Side.Side, Side.the-variants.Buy, Side.the-variants.Sell, Auction.Auction, Auction.the-variants.Opening, Auction.the-variants.Closing, Order.Order}
+use Rattle.terms.specs.Orders.{Resting}
+use Rattle.terms.specs.declared.orders.{Side.Side, Side.the-variants.Buy, Side.the-variants.Sell, Auction.Auction, Auction.the-variants.Opening, Auction.the-variants.Closing}
 use Rattle.queue.specs.Sides.{isUnlimited}
 use Rattle.price.specs.Interest.{executable}
 use Rattle.price.specs.Candidates.{mostExecutable}
@@ -20,15 +21,15 @@ use Rattle.auction.specs.declared.{Outcome.Outcome, Outcome.the-variants
 use Rattle.trades.specs.Fills.{leftOf, tradesOf}
 
 -- the unlimited quantity taking part on a side
-abbrev pub unlimited : Side → List Order → ℕ
+abbrev pub unlimited : Side → List Resting → ℕ
 unlimited s book = leftOf s (λ o. isUnlimited (o .limit)) book
 
 -- Non Opening: the unlimited quantity taking part on either side exceeds the highest executable quantity
-unfoldable pub nonOpening : ℕ → List Order → Bool
+unfoldable pub nonOpening : ℕ → List Resting → Bool
 nonOpening reference book = ltb (mostExecutable reference book) (unlimited Buy book) || ltb (mostExecutable reference book) (unlimited Sell book)
 
 -- .. which prevents an opening; unlimited orders that stay unfilled don't prevent a closing
-abbrev pub prevented : Auction → ℕ → List Order → Bool
+abbrev pub prevented : Auction → ℕ → List Resting → Bool
 prevented Opening reference book = nonOpening reference book
 prevented Closing reference book = false
 
@@ -42,18 +43,18 @@ delays Opening delayed threshold reference price = not delayed && reaches thresh
 delays Closing delayed threshold reference price = false
 
 -- with a price the auction trades, unless it is delayed; without one there is no trade
-abbrev pub priced : Auction → Bool → ℕ → ℕ → List Order → Option ℕ → Outcome
+abbrev pub priced : Auction → Bool → ℕ → ℕ → List Resting → Option ℕ → Outcome
 priced a delayed threshold reference book none = NoTrade
 priced a delayed threshold reference book (some p) =
     cond (delays a delayed threshold reference p) (Delayed p (executable book p)) (Traded p (executable book p))
 
 -- Non Opening first, then Delayed Opening, then outcome 1 with trades or 2 without
-unfoldable pub outcome : Auction → Bool → ℕ → ℕ → List Order → Outcome
+unfoldable pub outcome : Auction → Bool → ℕ → ℕ → List Resting → Outcome
 outcome a delayed threshold reference book =
     cond (prevented a reference book) NonOpening (priced a delayed threshold reference book (auctionPrice reference book))
 
 -- the trades: only where the auction trades
-abbrev pub trades : Outcome → List Order → List Trade
+abbrev pub trades : Outcome → List Resting → List Trade
 trades (Traded price quantity) book = tradesOf quantity book
 trades NoTrade book = []
 trades NonOpening book = []
@@ -78,7 +79,7 @@ quantityAnswered NoTrade = 0
 quantityAnswered NonOpening = 0
 quantityAnswered (Delayed price quantity) = quantity
 
-abbrev pub countAnswered : Outcome → List Order → ℕ
+abbrev pub countAnswered : Outcome → List Resting → ℕ
 countAnswered o book = length (trades o book)
 
 -- an auction takes place where nothing holds it back: outcome 1 or 2
@@ -89,7 +90,7 @@ takesPlace NonOpening = false
 takesPlace (Delayed price quantity) = false
 
 -- What an outcome says of the price.
-module _ (a : Auction) (delayed : Bool) (threshold reference : ℕ) (book : List Order) where
+module _ (a : Auction) (delayed : Bool) (threshold reference : ℕ) (book : List Resting) where
   priced-traded : (found : Option ℕ) (p q : ℕ) → priced a delayed threshold reference book found ≡ Traded p q → (found ≡ some p) × (q ≡ executable book p)
   priced-traded none p q e = let z : _≡_ {A = ℕ} 0 1 = cc in absurd (omega arith)
   priced-traded (some r) p q e = go (delays a delayed threshold reference r) e
@@ -146,7 +147,7 @@ module _ (a : Auction) (delayed : Bool) (threshold reference : ℕ) (book : List
       from false h = absurd h
 
 -- a closing has outcome 1 or 2 only
-pub closing-takes-place : (delayed : Bool) (threshold reference : ℕ) (book : List Order) → T (takesPlace (outcome Closing delayed threshold reference book))
+pub closing-takes-place : (delayed : Bool) (threshold reference : ℕ) (book : List Resting) → T (takesPlace (outcome Closing delayed threshold reference book))
 unfolding outcome
 closing-takes-place delayed threshold reference book = go (auctionPrice reference book)
   where

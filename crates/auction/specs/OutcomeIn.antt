@@ -13,8 +13,8 @@ use Rattle.lists.specs.Tests.{tests, and-both}
 use Rattle.lists.specs.Sums.{_∈_}
 use Rattle.terms.specs.Bounds.{maxPrice, maxNumber}
 use Rattle.terms.specs.Kinds.{isPrice, isMultiple, isReference}
-use Rattle.terms.specs.Orders.{limitNumber, limitFrom}
-use Rattle.terms.specs.declared.orders.{Side.Side, Side.the-variants.Buy, Side.the-variants.Sell, Auction.Auction, Limit.Limit, Limit.the-variants.Unlimited, Limit.the-variants.At, Order.Order}
+use Rattle.terms.specs.Orders.{Resting, limitNumber, limitFrom}
+use Rattle.terms.specs.declared.orders.{Side.Side, Side.the-variants.Buy, Side.the-variants.Sell, Auction.Auction, Limit.Limit, Limit.the-variants.Unlimited, Limit.the-variants.At}
 use Rattle.book.specs.declared.Book.{Book}
 use Rattle.book.specs.Columns.{orderAt}
 use Rattle.book.specs.Resting.{resting}
@@ -50,18 +50,18 @@ number-from zero = refl
 number-from (suc l) = refl
 
 -- the limits of a book are those of its orders ..
-limits-elim : (book : List Order) {p : ℕ} → p ∈ limits book → (o : Order) × (o ∈ book) × (o .limit ≡ At p)
+limits-elim : (book : List Resting) {p : ℕ} → p ∈ limits book → (o : Resting) × (o ∈ book) × (o .limit ≡ At p)
 limits-elim [] m = absurd (List·Memᴰ·not-nil m)
 limits-elim (o ∷ os) {p} m = go (o .limit) refl (limits-elim os) m
   where
-    go : (w : Limit) → o .limit ≡ w → (p ∈ limits os → (x : Order) × (x ∈ os) × (x .limit ≡ At p)) → p ∈ addLimit w (limits os) → (x : Order) × (x ∈ (o ∷ os)) × (x .limit ≡ At p)
+    go : (w : Limit) → o .limit ≡ w → (p ∈ limits os → (x : Resting) × (x ∈ os) × (x .limit ≡ At p)) → p ∈ addLimit w (limits os) → (x : Resting) × (x ∈ (o ∷ os)) × (x .limit ≡ At p)
     go Unlimited e below m = let (x, n, i) = below m in (x, List·Memᴰ·tail n, i)
     go (At l) e below (List·Memᴰ·head i) = (o, List·Memᴰ·head refl, e ∙ ap At (sym i))
     go (At l) e below (List·Memᴰ·tail m) = let (x, n, i) = below m in (x, List·Memᴰ·tail n, i)
 
-limits-intro : (book : List Order) {o : Order} {p : ℕ} → o ∈ book → o .limit ≡ At p → p ∈ limits book
+limits-intro : (book : List Resting) {o : Resting} {p : ℕ} → o ∈ book → o .limit ≡ At p → p ∈ limits book
 limits-intro [] m e = absurd (List·Memᴰ·not-nil m)
-limits-intro (x ∷ xs) {o} {p} (List·Memᴰ·head i) e = let l : x .limit ≡ At p = ap (λ (y : Order). y .limit) (sym i) ∙ e in rw l (List·Memᴰ·head refl)
+limits-intro (x ∷ xs) {o} {p} (List·Memᴰ·head i) e = let l : x .limit ≡ At p = ap (λ (y : Resting). y .limit) (sym i) ∙ e in rw l (List·Memᴰ·head refl)
 limits-intro (x ∷ xs) {o} {p} (List·Memᴰ·tail m) e = later (x .limit) (limits-intro xs m e)
   where
     later : (w : Limit) → p ∈ limits xs → p ∈ addLimit w (limits xs)
@@ -69,7 +69,7 @@ limits-intro (x ∷ xs) {o} {p} (List·Memᴰ·tail m) e = later (x .limit) (lim
     later (At l) n = List·Memᴰ·tail n
 
 -- .. and so are their numbers, but for 0, which is none
-number-listed : (book : List Order) {o : Order} → o ∈ book → (p : ℕ) → limitNumber (o .limit) ≡ p → (p ≡ 0) ⊎ (p ∈ limits book)
+number-listed : (book : List Resting) {o : Resting} → o ∈ book → (p : ℕ) → limitNumber (o .limit) ≡ p → (p ≡ 0) ⊎ (p ∈ limits book)
 number-listed book {o} m p i = go (o .limit) refl i
   where
     go : (w : Limit) → o .limit ≡ w → limitNumber w ≡ p → (p ≡ 0) ⊎ (p ∈ limits book)
@@ -84,10 +84,10 @@ price-room step p h =
     (omega tests, omega tests)
 
 module _ (step given : ℕ) (b : Book) (sound : SoundBook step given b) (few : given ≤ maxNumber) (a : Auction) where
-  abbrev part : List Order
+  abbrev part : List Resting
   part = takingPart a (resting b)
 
-  abbrev orderOf : ℕ → Order
+  abbrev orderOf : ℕ → Resting
   orderOf r = orderAt b (placeOfRank r)
 
   distinct : Distinct part
@@ -129,22 +129,22 @@ module _ (step given : ℕ) (b : Book) (sound : SoundBook step given b) (few : g
     entries-on : entries ≡ map (λ o. limitNumber (o .limit)) (ranked s part)
     entries-on =
         map-congr-left {l = ranksOn b a s} (λ r m. number-from (getD (b .limit) (placeOfRank r) 0))
-        ∙ sym (map-map (λ (o : Order). limitNumber (o .limit)) orderOf (ranksOn b a s))
-        ∙ ap (map (λ (o : Order). limitNumber (o .limit))) queue
+        ∙ sym (map-map (λ (o : Resting). limitNumber (o .limit)) orderOf (ranksOn b a s))
+        ∙ ap (map (λ (o : Resting). limitNumber (o .limit))) queue
 
     -- each is 0 or a limit of the orders taking part, and those of the side are all there
     entries-known : (p : ℕ) → p ∈ entries → (p ≡ 0) ⊎ (p ∈ limits part)
     entries-known p m =
-        let (o, n, i) = Memᴰ·of-map (λ (o : Order). limitNumber (o .limit)) (ranked s part) (rw entries-on at m) in
+        let (o, n, i) = Memᴰ·of-map (λ (o : Resting). limitNumber (o .limit)) (ranked s part) (rw entries-on at m) in
         number-listed part (ranked-elim s part n .0) p i
 
-    entered : (p : ℕ) (o : Order) → o ∈ part → T (onSide s o) → o .limit ≡ At p → p ∈ entries
-    entered p o m on e = rw entries-on (rw e at (Memᴰ·map (λ (x : Order). limitNumber (x .limit)) (ranked-intro s m on)))
+    entered : (p : ℕ) (o : Resting) → o ∈ part → T (onSide s o) → o .limit ≡ At p → p ∈ entries
+    entered p o m on e = rw entries-on (rw e at (Memᴰ·map (λ (x : Resting). limitNumber (x .limit)) (ranked-intro s m on)))
 
   all-entered : (p : ℕ) → p ∈ limits part → (p ∈ entries Buy) ⊎ (p ∈ entries Sell)
   all-entered p m = let (o, n, e) = limits-elim part m in go o n e (o .side) refl
     where
-      go : (o : Order) → o ∈ part → o .limit ≡ At p → (t : Side) → o .side ≡ t → (p ∈ entries Buy) ⊎ (p ∈ entries Sell)
+      go : (o : Resting) → o ∈ part → o .limit ≡ At p → (t : Side) → o .side ≡ t → (p ∈ entries Buy) ⊎ (p ∈ entries Sell)
       go o n e Buy i = inl (entered Buy p o n (rw i tt) e)
       go o n e Sell i = inr (entered Sell p o n (rw i tt) e)
 

@@ -12,8 +12,8 @@ use lib.ListN.{getD, set}
 use lib.Seq.{set-getD}
 use Rattle.lists.specs.Tests.{tests, and-both, and-intro}
 use Rattle.terms.specs.Bounds.{places, minQuantity, maxQuantity}
-use Rattle.terms.specs.Orders.{validityNumber}
-use Rattle.terms.specs.declared.orders.{Validity.Validity, Validity.the-variants.AtOpening, Validity.the-variants.AtClose, Validity.the-variants.Day, Validity.the-variants.LaterDay, Auction.Auction, Auction.the-variants.Opening, Auction.the-variants.Closing, Order.Order}
+use Rattle.terms.specs.Orders.{Resting, validityNumber}
+use Rattle.terms.specs.declared.orders.{Validity.Validity, Validity.the-variants.AtOpening, Validity.the-variants.AtClose, Validity.the-variants.Day, Validity.the-variants.LaterDay, Auction.Auction, Auction.the-variants.Opening, Auction.the-variants.Closing}
 use Rattle.book.specs.declared.Book.{Book}
 use Rattle.places.specs.Places.{isTaken, marked, unmarked}
 use Rattle.book.specs.Columns.{valuesAt, valuesOf, orderFrom, orderAt, emptyValues, written, stored, cleared}
@@ -134,7 +134,7 @@ settled-at a trades rests c place coded left = go (isTaken (c .taken) place) ref
 -- The book is changed by what the trades leave of each order.
 module _ (step given : ℕ) (a : Auction) (trades : List Trade) where
   -- what remains is above 0 and no more than before
-  pub rest-keeps : (o o' : Order) → SoundOrder step given o → restOf a trades o ≡ some o' → SoundOrder step given o' × (o' .number ≡ o .number)
+  pub rest-keeps : (o o' : Resting) → SoundOrder step given o → restOf a trades o ≡ some o' → SoundOrder step given o' × (o' .number ≡ o .number)
   unfolding restOf
   rest-keeps o o' sound = go (eqb (remaining trades o .left) 0) refl (ends a (o .validity))
     where
@@ -155,7 +155,7 @@ module _ (step given : ℕ) (a : Auction) (trades : List Trade) where
       go false e true f = absurd (Option·none-ne-some o' f)
       go false e false f =
           let i = Option·some-injective (remaining trades o) o' f in
-          (subst (SoundOrder step given) i (good e), ap (λ (x : Order). x .number) (sym i))
+          (subst (SoundOrder step given) i (good e), ap (λ (x : Resting). x .number) (sym i))
 
   settled-changed-to : (rests : List ℕ) (b : Book) → SoundBook step given b → ((p : ℕ) → p < places → LeftOf trades rests b p)
       → (n : ℕ) → n ≤ places → settledTo a rests b n ≡ changedTo (restOf a trades) b n

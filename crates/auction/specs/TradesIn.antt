@@ -11,7 +11,8 @@ use lib.ListN.{length, getD, take, drop, length-map, take-append-drop}
 use Rattle.lists.specs.Tests.{same-test}
 use Rattle.lists.specs.Sums.{_∈_, counted, sum-none}
 use Rattle.terms.specs.Bounds.{places, maxNumber}
-use Rattle.terms.specs.declared.orders.{Side.Side, Side.the-variants.Buy, Side.the-variants.Sell, Auction.Auction, Order.Order}
+use Rattle.terms.specs.Orders.{Resting}
+use Rattle.terms.specs.declared.orders.{Side.Side, Side.the-variants.Buy, Side.the-variants.Sell, Auction.Auction}
 use Rattle.book.specs.declared.Book.{Book}
 use Rattle.places.specs.Places.{isTaken}
 use Rattle.book.specs.Columns.{orderAt}
@@ -45,14 +46,14 @@ apart-sides : Sell ≡ Buy → ⊥
 apart-sides e = let z : _≡_ {A = ℕ} 0 1 = cc in omega arith
 
 module _ (step given : ℕ) (b : Book) (sound : SoundBook step given b) (few : given ≤ maxNumber) (a : Auction) where
-  abbrev part : List Order
+  abbrev part : List Resting
   part = takingPart a (resting b)
 
-  abbrev orderOf : ℕ → Order
+  abbrev orderOf : ℕ → Resting
   orderOf r = orderAt b (placeOfRank r)
 
   -- The columns along a side's ranks are the columns of its ranked queue.
-  along-on : (s : Side) (w : Order → ℕ) → map (λ r. w (orderOf r)) (ranksOn b a s) ≡ map w (ranked s part)
+  along-on : (s : Side) (w : Resting → ℕ) → map (λ r. w (orderOf r)) (ranksOn b a s) ≡ map w (ranked s part)
   along-on s w = sym (map-map w orderOf (ranksOn b a s)) ∙ ap (map w) (ranked-by-ranks step given b sound few s a)
 
   shares-on : (quantity : ℕ) (s : Side) → sharesIn quantity (b .left) (ranksOn b a s) ≡ map (λ x. x .quantity) (fills s quantity part)
@@ -68,13 +69,13 @@ module _ (step given : ℕ) (b : Book) (sound : SoundBook step given b) (few : g
       ∙ ap (λ (t : List ℕ). t ++ drop (length filled) (map number os))
       (front-map number (length filled) os ∙ ap (map number) (sym (fill-orders quantity os)) ∙ map-map number (λ (x : Fill). x .order) filled)
     where
-      os : List Order
+      os : List Resting
       os = ranked s part
 
       filled : List Fill
       filled = fill quantity os
 
-      number : Order → ℕ
+      number : Resting → ℕ
       number o = o .number
 
   -- The trades are those of the definition.
@@ -97,7 +98,7 @@ module _ (step given : ℕ) (b : Book) (sound : SoundBook step given b) (few : g
     unfolding fills
     shared-on quantity s =
         shared-at-fill orderOf (ranksOn b a s) p (orderAt b p .number) quantity (same-order s)
-        ∙ ap (λ (os : List Order). filledBy (hasNumber (orderAt b p .number)) (fill quantity os)) (ranked-by-ranks step given b sound few s a)
+        ∙ ap (λ (os : List Resting). filledBy (hasNumber (orderAt b p .number)) (fill quantity os)) (ranked-by-ranks step given b sound few s a)
 
     -- on the other side nothing is filled under its number
     other-fill : (quantity : ℕ) (s : Side) → s ≢ orderAt b p .side → filledBy (hasNumber (orderAt b p .number)) (fills s quantity part) ≡ 0
@@ -106,12 +107,12 @@ module _ (step given : ℕ) (b : Book) (sound : SoundBook step given b) (few : g
         sum-none (λ x. counted (hasNumber (orderAt b p .number) (x .order)) (x .quantity)) (fill quantity (ranked s part))
         (fill-all (λ x. counted (hasNumber (orderAt b p .number) (x .order)) (x .quantity) ≡ 0) quantity (ranked s part) (λ o n m. rw (ne-eqb (o .number) (orderAt b p .number) (differs o m))))
       where
-        differs : (o : Order) → o ∈ ranked s part → o .number ≢ orderAt b p .number
+        differs : (o : Resting) → o ∈ ranked s part → o .number ≢ orderAt b p .number
         differs o m i =
             let (listed, on) = ranked-elim s part m in
             let there = resting-elim b places (takingPart-elim a (resting b) listed .0) in
-            let e : there .place ≡ p = sound .once (there .place) p (there .below) here (there .taken) taken (ap (λ (x : Order). x .number) (sym (there .is)) ∙ i) in
-            apart (sameSide-eq s (o .side) on ∙ ap (λ (x : Order). x .side) (there .is ∙ ap (orderAt b) e))
+            let e : there .place ≡ p = sound .once (there .place) p (there .below) here (there .taken) taken (ap (λ (x : Resting). x .number) (sym (there .is)) ∙ i) in
+            apart (sameSide-eq s (o .side) on ∙ ap (λ (x : Resting). x .side) (there .is ∙ ap (orderAt b) e))
 
     module _ (price quantity : ℕ) (enough : (s : Side) → quantity ≤ interest s price part) where
       distinct : Distinct part

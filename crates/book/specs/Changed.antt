@@ -7,7 +7,7 @@ use mathlib.Core.Path.{_≡_, refl, sym, ap, subst, _∙_}
 use native.Mathlib.Omega.{arith}
 use Rattle.lists.specs.Sums.{_∈_}
 use Rattle.terms.specs.Bounds.{places}
-use Rattle.terms.specs.declared.orders.{Order.Order}
+use Rattle.terms.specs.Orders.{Resting}
 use Rattle.book.specs.declared.Book.{Book}
 use Rattle.places.specs.Places.{isTaken}
 use Rattle.book.specs.Columns.{valuesAt, valuesOf, orderFrom, orderAt, emptyValues, stored, cleared}
@@ -17,21 +17,21 @@ use Rattle.book.specs.Rests.{resting-elim, resting-intro}
 use Rattle.book.specs.Sound.{SoundOrder, SoundBook, legal-limit, same-or-not, changed-sound, cleared-sound}
 
 -- what stands at a place afterwards
-pub record AfterAt (change : Order → Option Order) (b c : Book) (p : ℕ) : Type 0 where
+pub record AfterAt (change : Resting → Option Resting) (b c : Book) (p : ℕ) : Type 0 where
   pub free : isTaken (b .taken) p ≡ false → (isTaken (c .taken) p ≡ false) × (valuesAt c p ≡ valuesAt b p)
   pub gone : isTaken (b .taken) p ≡ true → change (orderAt b p) ≡ none → (isTaken (c .taken) p ≡ false) × (valuesAt c p ≡ emptyValues)
-  pub left : (o : Order) → isTaken (b .taken) p ≡ true → change (orderAt b p) ≡ some o → (isTaken (c .taken) p ≡ true) × (orderAt c p ≡ o)
+  pub left : (o : Resting) → isTaken (b .taken) p ≡ true → change (orderAt b p) ≡ some o → (isTaken (c .taken) p ≡ true) × (orderAt c p ≡ o)
 
-module _ (change : Order → Option Order) where
+module _ (change : Resting → Option Resting) where
   -- one place: it is free, or its order goes, or something is left of it
   changed-cases : (P : Book → Type 0) (b : Book) (place : ℕ)
       → (isTaken (b .taken) place ≡ false → P b)
       → (isTaken (b .taken) place ≡ true → change (orderAt b place) ≡ none → P (cleared b place))
-      → ((o : Order) → isTaken (b .taken) place ≡ true → change (orderAt b place) ≡ some o → P (stored b place o))
+      → ((o : Resting) → isTaken (b .taken) place ≡ true → change (orderAt b place) ≡ some o → P (stored b place o))
       → P (changedAt change b place)
   changed-cases P b place free gone left = go (isTaken (b .taken) place) refl (change (orderAt b place)) refl
     where
-      go : (t : Bool) → isTaken (b .taken) place ≡ t → (r : Option Order) → change (orderAt b place) ≡ r → P (cond t (putBack b place r) b)
+      go : (t : Bool) → isTaken (b .taken) place ≡ t → (r : Option Resting) → change (orderAt b place) ≡ r → P (cond t (putBack b place r) b)
       go false e r f = free e
       go true e none f = gone e f
       go true e (some o) f = left o e f
@@ -73,16 +73,16 @@ module _ (change : Order → Option Order) where
   }
 
 -- What is left of a sound order is sound, under the same number.
-module _ (step given : ℕ) (change : Order → Option Order)
-    (keeps : (o o' : Order) → SoundOrder step given o → change o ≡ some o' → SoundOrder step given o' × (o' .number ≡ o .number)) where
+module _ (step given : ℕ) (change : Resting → Option Resting)
+    (keeps : (o o' : Resting) → SoundOrder step given o → change o ≡ some o' → SoundOrder step given o' × (o' .number ≡ o .number)) where
   -- .. one place
   module _ (b : Book) (sound : SoundBook step given b) (place : ℕ) (here : place < places) where
-    left-order : (o : Order) → isTaken (b .taken) place ≡ true → change (orderAt b place) ≡ some o → orderAt (stored b place o) place ≡ o
+    left-order : (o : Resting) → isTaken (b .taken) place ≡ true → change (orderAt b place) ≡ some o → orderAt (stored b place o) place ≡ o
     left-order o e f =
         let (good, same) = keeps (orderAt b place) o (sound .each place here .rests e) f in
         stored-order b (sound .sized) place here o (legal-limit step (o .limit) (good .legal))
 
-    left-sound : (o : Order) → isTaken (b .taken) place ≡ true → change (orderAt b place) ≡ some o → SoundBook step given (stored b place o)
+    left-sound : (o : Resting) → isTaken (b .taken) place ≡ true → change (orderAt b place) ≡ some o → SoundBook step given (stored b place o)
     left-sound o e f =
         let (good, same) = keeps (orderAt b place) o (sound .each place here .rests e) f in
         let back = left-order o e f in
@@ -92,7 +92,7 @@ module _ (step given : ℕ) (change : Order → Option Order)
           coded = λ g. ap valuesOf back ∙ sym (stored-raw b (sound .sized) place here o);
           rests = λ g. rw back good;
         })
-        (λ p n h g k i. n (sound .once p place h here g e (i ∙ ap (λ (x : Order). x .number) back ∙ same)))
+        (λ p n h g k i. n (sound .once p place h here g e (i ∙ ap (λ (x : Resting). x .number) back ∙ same)))
 
     step-sound : SoundBook step given (changedAt change b place)
     step-sound = changed-cases change (SoundBook step given) b place (λ e. sound) (λ e f. cleared-sound step given b sound place here) left-sound
@@ -142,23 +142,23 @@ module _ (step given : ℕ) (change : Order → Option Order)
     changed-at p h = to-after places p h (omega arith)
 
     -- What rests afterwards is what is left of what rested.
-    pub changed-resting : (x : Order) → (x ∈ resting (changed change b)) ↔ ((o : Order) × (o ∈ resting b) × (change o ≡ some x))
+    pub changed-resting : (x : Resting) → (x ∈ resting (changed change b)) ↔ ((o : Resting) × (o ∈ resting b) × (change o ≡ some x))
     changed-resting x = (to, back)
       where
-        to : x ∈ resting (changed change b) → (o : Order) × (o ∈ resting b) × (change o ≡ some x)
+        to : x ∈ resting (changed change b) → (o : Resting) × (o ∈ resting b) × (change o ≡ some x)
         to m =
             let s = resting-elim (changed change b) places m in
             let after = changed-at (s .place) (s .below) in
             go (s .place) (s .below) (s .taken) (s .is) after (isTaken (b .taken) (s .place)) refl (change (orderAt b (s .place))) refl
           where
             go : (p : ℕ) → p < places → isTaken (changed change b .taken) p ≡ true → x ≡ orderAt (changed change b) p → AfterAt change b (changed change b) p
-                → (t : Bool) → isTaken (b .taken) p ≡ t → (r : Option Order) → change (orderAt b p) ≡ r → (o : Order) × (o ∈ resting b) × (change o ≡ some x)
+                → (t : Bool) → isTaken (b .taken) p ≡ t → (r : Option Resting) → change (orderAt b p) ≡ r → (o : Resting) × (o ∈ resting b) × (change o ≡ some x)
             go p h taken is after false e r f = absurd (true≢false (sym taken ∙ after .free e .0))
             go p h taken is after true e none f = absurd (true≢false (sym taken ∙ after .gone e f .0))
             go p h taken is after true e (some o) f = (orderAt b p, resting-intro b places p h e, f ∙ ap some (sym (is ∙ after .left o e f .1)))
 
-        back : (o : Order) × (o ∈ resting b) × (change o ≡ some x) → x ∈ resting (changed change b)
+        back : (o : Resting) × (o ∈ resting b) × (change o ≡ some x) → x ∈ resting (changed change b)
         back (o, m, f) =
             let s = resting-elim b places m in
             let (taken, is) = changed-at (s .place) (s .below) .left x (s .taken) (ap change (sym (s .is)) ∙ f) in
-            subst (λ (y : Order). y ∈ resting (changed change b)) is (resting-intro (changed change b) places (s .place) (s .below) taken)
+            subst (λ (y : Resting). y ∈ resting (changed change b)) is (resting-intro (changed change b) places (s .place) (s .below) taken)

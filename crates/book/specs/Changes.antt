@@ -9,8 +9,8 @@ use lib.Dec.{T}
 use lib.ListN.{length, getD, set, length-set}
 use lib.Seq.{getD-set-same, getD-set-other}
 use Rattle.terms.specs.Bounds.{places}
-use Rattle.terms.specs.Orders.{sideNumber, validityNumber, limitNumber, limitFrom, isLimit}
-use Rattle.terms.specs.declared.orders.{Side.Side, Side.the-variants.Buy, Side.the-variants.Sell, Validity.Validity, Validity.the-variants.AtOpening, Validity.the-variants.AtClose, Validity.the-variants.Day, Validity.the-variants.LaterDay, Limit.Limit, Limit.the-variants.Unlimited, Limit.the-variants.At, Order.Order}
+use Rattle.terms.specs.Orders.{Resting, sideNumber, validityNumber, limitNumber, limitFrom, isLimit}
+use Rattle.terms.specs.declared.orders.{Side.Side, Side.the-variants.Buy, Side.the-variants.Sell, Validity.Validity, Validity.the-variants.AtOpening, Validity.the-variants.AtClose, Validity.the-variants.Day, Validity.the-variants.LaterDay, Limit.Limit, Limit.the-variants.Unlimited, Limit.the-variants.At}
 use Rattle.book.specs.declared.Book.{Book}
 use Rattle.places.specs.Places.{isTaken, marked, unmarked}
 use Rattle.places.specs.Words.{marked-taken, marked-elsewhere, unmarked-free, unmarked-elsewhere, marked-length, unmarked-length}
@@ -43,7 +43,7 @@ limit-back Unlimited h = refl
 limit-back (At zero) h = absurd h
 limit-back (At (suc n)) h = refl
 
-order-back : (o : Order) → T (isLimit (o .limit)) → orderFrom (valuesOf o) ≡ o
+order-back : (o : Resting) → T (isLimit (o .limit)) → orderFrom (valuesOf o) ≡ o
 order-back o h = rw (side-back (o .side), validity-back (o .validity), limit-back (o .limit) h)
 
 module _ (b : Book) (words : List ℕ) (place : ℕ) (r : Values) where
@@ -84,7 +84,7 @@ module _ (b : Book) (sized : Sized b) (place : ℕ) (here : place < places) wher
   word-here = omega (arith, sized .taken)
 
   -- Storing: the place is taken by the order, and all others are as before.
-  module _ (o : Order) where
+  module _ (o : Resting) where
     pub stored-taken : isTaken (stored b place o .taken) place ≡ true
     unfolding stored
     stored-taken = marked-taken (b .taken) place word-here

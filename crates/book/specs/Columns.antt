@@ -5,8 +5,8 @@ use lib.Dec.{eqb}
 use mathlib.Core.List.{List}
 use lib.ListN.{getD, set, replicate}
 use Rattle.terms.specs.Bounds.{places}
-use Rattle.terms.specs.Orders.{sideNumber, validityNumber, limitNumber, limitFrom}
-use Rattle.terms.specs.declared.orders.{Side.Side, Side.the-variants.Buy, Side.the-variants.Sell, Validity.Validity, Validity.the-variants.AtOpening, Validity.the-variants.AtClose, Validity.the-variants.Day, Validity.the-variants.LaterDay, Order.Order}
+use Rattle.terms.specs.Orders.{Resting, sideNumber, validityNumber, limitNumber, limitFrom}
+use Rattle.terms.specs.declared.orders.{Side.Side, Side.the-variants.Buy, Side.the-variants.Sell, Validity.Validity, Validity.the-variants.AtOpening, Validity.the-variants.AtClose, Validity.the-variants.Day, Validity.the-variants.LaterDay}
 use Rattle.book.specs.declared.{Book.Book, Values.Values}
 use Rattle.places.specs.Places.{marked, unmarked}
 
@@ -29,7 +29,7 @@ valuesAt b place = record {
 }
 
 -- an order as the columns hold it, and back
-abbrev pub valuesOf : Order → Values
+abbrev pub valuesOf : Resting → Values
 valuesOf o = record {
   number = o .number;
   member = o .member;
@@ -39,7 +39,7 @@ valuesOf o = record {
   limit = limitNumber (o .limit);
 }
 
-abbrev pub orderFrom : Values → Order
+abbrev pub orderFrom : Values → Resting
 orderFrom r = record {
   number = r .number;
   member = r .member;
@@ -50,7 +50,7 @@ orderFrom r = record {
 }
 
 -- the order at a place
-abbrev pub orderAt : Book → ℕ → Order
+abbrev pub orderAt : Book → ℕ → Resting
 orderAt b place = orderFrom (valuesAt b place)
 
 -- the empty values
@@ -82,7 +82,7 @@ written b words place r = record {
 }
 
 -- the book with an order at a place
-unfoldable pub stored : Book → ℕ → Order → Book
+unfoldable pub stored : Book → ℕ → Resting → Book
 stored b place o = written b (marked (b .taken) place) place (valuesOf o)
 
 -- the book with a place free, written back to the empty values

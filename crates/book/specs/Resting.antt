@@ -7,21 +7,21 @@ use mathlib.Core.List.{List, [], _∷_, _++_}
 use lib.Dec.{eqb}
 use lib.ListN.{getD}
 use Rattle.terms.specs.Bounds.{places}
-use Rattle.terms.specs.declared.orders.{Order.Order}
+use Rattle.terms.specs.Orders.{Resting}
 use Rattle.book.specs.declared.Book.{Book}
 use Rattle.places.specs.Places.{isTaken}
 use Rattle.book.specs.Columns.{orderAt, stored, cleared}
 
 -- the order at a place, where it is taken
-abbrev pub restingAt : Book → ℕ → List Order
+abbrev pub restingAt : Book → ℕ → List Resting
 restingAt b place = cond (isTaken (b .taken) place) (orderAt b place ∷ []) []
 
 -- the orders that rest at the first n places, by place
-unfoldable pub restingTo : Book → ℕ → List Order
+unfoldable pub restingTo : Book → ℕ → List Resting
 restingTo b zero = []
 restingTo b (suc n) = restingTo b n ++ restingAt b n
 
-abbrev pub resting : Book → List Order
+abbrev pub resting : Book → List Resting
 resting b = restingTo b places
 
 -- this place, or what is found later
@@ -30,16 +30,16 @@ firstOr true found later = found
 firstOr false found later = later
 
 -- the first of n places from one on whose resting order passes the test, or the place behind them
-unfoldable pub findFrom : (Order → Bool) → Book → ℕ → ℕ → ℕ
+unfoldable pub findFrom : (Resting → Bool) → Book → ℕ → ℕ → ℕ
 findFrom f b place zero = place
 findFrom f b place (suc n) = firstOr (isTaken (b .taken) place && f (orderAt b place)) place (findFrom f b (suc place) n)
 
 -- the place of the first resting order that passes the test, or 512
-abbrev pub placeOf : (Order → Bool) → Book → ℕ
+abbrev pub placeOf : (Resting → Bool) → Book → ℕ
 placeOf f b = findFrom f b 0 places
 
 -- an order of this number and this member
-abbrev pub isOf : ℕ → ℕ → Order → Bool
+abbrev pub isOf : ℕ → ℕ → Resting → Bool
 isOf number member o = eqb (o .number) number && eqb (o .member) member
 
 -- .. over the columns: the place is taken and has this number and this member
@@ -52,19 +52,19 @@ placeIn taken numbers members number member place (suc n) =
     firstOr (isSought taken numbers members number member place) place (placeIn taken numbers members number member (suc place) n)
 
 -- what a place holds after a change: the order that is left there, or nothing
-abbrev pub putBack : Book → ℕ → Option Order → Book
+abbrev pub putBack : Book → ℕ → Option Resting → Book
 putBack b place none = cleared b place
 putBack b place (some o) = stored b place o
 
-abbrev pub changedAt : (Order → Option Order) → Book → ℕ → Book
+abbrev pub changedAt : (Resting → Option Resting) → Book → ℕ → Book
 changedAt change b place = cond (isTaken (b .taken) place) (putBack b place (change (orderAt b place))) b
 
 -- the book with every resting order of its first n places changed or gone, at its own place
-unfoldable pub changedTo : (Order → Option Order) → Book → ℕ → Book
+unfoldable pub changedTo : (Resting → Option Resting) → Book → ℕ → Book
 changedTo change b zero = b
 changedTo change b (suc n) = changedAt change (changedTo change b n) n
 
-abbrev pub changed : (Order → Option Order) → Book → Book
+abbrev pub changed : (Resting → Option Resting) → Book → Book
 changed change b = changedTo change b places
 
 -- one place on: this one is it, or it is further on, or there are no more

@@ -11,27 +11,27 @@ use Rattle.lists.specs.Tests.{tests, passes, same-test, decided, and-both, and-
 use Rattle.lists.specs.Sums.{_∈_}
 use Rattle.lists.specs.Choice.{any, any-elim, any-intro}
 use Rattle.terms.specs.Bounds.{places}
-use Rattle.terms.specs.declared.orders.{Order.Order}
+use Rattle.terms.specs.Orders.{Resting}
 use Rattle.book.specs.declared.Book.{Book}
 use Rattle.places.specs.Places.{isTaken}
 use Rattle.book.specs.Columns.{orderAt}
 use Rattle.book.specs.Resting.{restingAt, restingTo, resting, firstOr, findFrom, placeOf}
 
 -- the order stands at one of the first n places
-pub record StandsAt (b : Book) (n : ℕ) (o : Order) : Type 0 where
+pub record StandsAt (b : Book) (n : ℕ) (o : Resting) : Type 0 where
   pub place : ℕ
   pub below : place < n
   pub taken : isTaken (b .taken) place ≡ true
   pub is : o ≡ orderAt b place
 
-restingAt-elim : (b : Book) (place : ℕ) {o : Order} → o ∈ restingAt b place → (isTaken (b .taken) place ≡ true) × (o ≡ orderAt b place)
+restingAt-elim : (b : Book) (place : ℕ) {o : Resting} → o ∈ restingAt b place → (isTaken (b .taken) place ≡ true) × (o ≡ orderAt b place)
 restingAt-elim b place {o} m = go (isTaken (b .taken) place) refl m
   where
     go : (t : Bool) → isTaken (b .taken) place ≡ t → o ∈ cond t (orderAt b place ∷ []) [] → (isTaken (b .taken) place ≡ true) × (o ≡ orderAt b place)
     go true e m = (e, List·Memᴰ·eq-of-singleton m)
     go false e m = absurd (List·Memᴰ·not-nil m)
 
-pub resting-elim : (b : Book) (n : ℕ) {o : Order} → o ∈ restingTo b n → StandsAt b n o
+pub resting-elim : (b : Book) (n : ℕ) {o : Resting} → o ∈ restingTo b n → StandsAt b n o
 unfolding restingTo
 resting-elim b zero m = absurd (List·Memᴰ·not-nil m)
 resting-elim b (suc n) m =
@@ -60,13 +60,13 @@ resting-length b (suc n) = rw length-append (omega (arith, resting-length b n, o
     one false = omega arith
 
 -- Looking from a place on: what is found passes, and nothing before it does.
-record Found (f : Order → Bool) (b : Book) (place n r : ℕ) : Type 0 where
+record Found (f : Resting → Bool) (b : Book) (place n r : ℕ) : Type 0 where
   from : place ≤ r
   most : r ≤ place + n
   hit : r < place + n → T (isTaken (b .taken) r && f (orderAt b r))
   missed : (p : ℕ) → place ≤ p → p < r → T (isTaken (b .taken) p && f (orderAt b p)) → ⊥
 
-found : (f : Order → Bool) (b : Book) (place n : ℕ) → Found f b place n (findFrom f b place n)
+found : (f : Resting → Bool) (b : Book) (place n : ℕ) → Found f b place n (findFrom f b place n)
 unfolding findFrom
 found f b place zero = record { from = omega arith; most = omega arith; hit = λ h. absurd (omega arith); missed = λ p h k t. omega arith }
 found f b place (suc n) = go (isTaken (b .taken) place && f (orderAt b place)) refl (found f b (suc place) n)
@@ -83,13 +83,13 @@ found f b place (suc n) = go (isTaken (b .taken) place && f (orderAt b place)) r
         first : (p : ℕ) → place ≤ p → (place ≡ p) ⊎ (suc place ≤ p)
         first p h = ⊎-elim (λ l. inr (omega tests)) (λ l. inl (omega tests)) (decided (ltb place p))
 
-pub place-found : (f : Order → Bool) (b : Book) → placeOf f b < places → (isTaken (b .taken) (placeOf f b) ≡ true) × T (f (orderAt b (placeOf f b)))
+pub place-found : (f : Resting → Bool) (b : Book) → placeOf f b < places → (isTaken (b .taken) (placeOf f b) ≡ true) × T (f (orderAt b (placeOf f b)))
 place-found f b h =
     let (taken, passed) = and-both (isTaken (b .taken) (placeOf f b)) _ (found f b 0 places .hit (omega arith)) in
     (passes (isTaken (b .taken) (placeOf f b)) taken, passed)
 
 -- Some resting order passes exactly where a place is found.
-pub any-resting : (f : Order → Bool) (b : Book) → any f (resting b) ≡ ltb (placeOf f b) places
+pub any-resting : (f : Resting → Bool) (b : Book) → any f (resting b) ≡ ltb (placeOf f b) places
 any-resting f b = same-test (any f (resting b)) (ltb (placeOf f b) places) there back
   where
     there : T (any f (resting b)) → T (ltb (placeOf f b) places)

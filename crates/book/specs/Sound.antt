@@ -10,8 +10,8 @@ use lib.ListN.{length-replicate, getD-replicate}
 use Rattle.lists.specs.Tests.{and-both}
 use Rattle.terms.specs.Bounds.{places}
 use Rattle.terms.specs.Kinds.{isPrice, isMultiple, isMember, isQuantity}
-use Rattle.terms.specs.Orders.{isLimit, isLegal}
-use Rattle.terms.specs.declared.orders.{Limit.Limit, Limit.the-variants.Unlimited, Limit.the-variants.At, Order.Order}
+use Rattle.terms.specs.Orders.{Resting, isLimit, isLegal}
+use Rattle.terms.specs.declared.orders.{Limit.Limit, Limit.the-variants.Unlimited, Limit.the-variants.At}
 use Rattle.book.specs.declared.Book.{Book}
 use Rattle.places.specs.Places.{isTaken}
 use Rattle.places.specs.Words.{zeros-free}
@@ -19,7 +19,7 @@ use Rattle.book.specs.Columns.{valuesAt, valuesOf, orderFrom, orderAt, e
 use Rattle.book.specs.Changes.{Sized, SameAt, stored-taken, stored-raw, stored-order, stored-elsewhere, stored-sized, cleared-free, cleared-raw, cleared-elsewhere, cleared-sized}
 
 -- an order that may rest: its number among those given, its other fields in range, its limit a multiple of the step
-pub record SoundOrder (step given : ℕ) (o : Order) : Type 0 where
+pub record SoundOrder (step given : ℕ) (o : Resting) : Type 0 where
   pub numbered : 0 < o .number
   pub given-already : o .number ≤ given
   pub of-member : T (isMember (o .member))
@@ -70,7 +70,7 @@ same-or-not p q = go (eqb p q) refl
     go false e = inr (eqb-false p q e)
 
 -- later numbers don't spoil an order
-later-order : (step given later : ℕ) → given ≤ later → (o : Order) → SoundOrder step given o → SoundOrder step later o
+later-order : (step given later : ℕ) → given ≤ later → (o : Resting) → SoundOrder step given o → SoundOrder step later o
 later-order step given later wait o s =
     record { numbered = s .numbered; given-already = omega (arith, s .given-already); of-member = s .of-member; open-quantity = s .open-quantity; legal = s .legal }
 
@@ -94,7 +94,7 @@ module _ (step given later : ℕ) (wait : given ≤ later) (b c : Book) (sound :
 
   -- two places, one of which is the changed one
   apart-from : (p : ℕ) → p ≢ place → p < places → isTaken (c .taken) p ≡ true → isTaken (c .taken) place ≡ true → orderAt c p .number ≢ orderAt c place .number
-  apart-from p n h e f i = new p n h (taken-before p n e) f (ap (λ (o : Order). o .number) (sym (order-before p n)) ∙ i)
+  apart-from p n h e f i = new p n h (taken-before p n e) f (ap (λ (o : Resting). o .number) (sym (order-before p n)) ∙ i)
 
   pub changed-sound : SoundBook step later c
   changed-sound = record {
@@ -108,13 +108,13 @@ module _ (step given later : ℕ) (wait : given ≤ later) (b c : Book) (sound :
         (λ m. ⊎-elim
         (λ at-q. absurd (apart-from p m h e (subst (λ (x : ℕ). isTaken (c .taken) x ≡ true) at-q f) (i ∙ ap (λ (x : ℕ). orderAt c x .number) at-q)))
         (λ n. sound .once p q h k (taken-before p m e) (taken-before q n f)
-        (ap (λ (o : Order). o .number) (sym (order-before p m)) ∙ i ∙ ap (λ (o : Order). o .number) (order-before q n)))
+        (ap (λ (o : Resting). o .number) (sym (order-before p m)) ∙ i ∙ ap (λ (o : Resting). o .number) (order-before q n)))
         (same-or-not q place))
         (same-or-not p place);
   }
 
 -- A free place takes an order with a number above all that were given.
-pub stored-sound : (step given : ℕ) (b : Book) → SoundBook step given b → (place : ℕ) → place < places → (o : Order) → given < o .number → SoundOrder step (o .number) o
+pub stored-sound : (step given : ℕ) (b : Book) → SoundBook step given b → (place : ℕ) → place < places → (o : Resting) → given < o .number → SoundOrder step (o .number) o
     → SoundBook step (o .number) (stored b place o)
 stored-sound step given b sound place here o above good =
     changed-sound step given (o .number) (omega arith) b (stored b place o) sound place (stored-sized b (sound .sized) place here o) (stored-elsewhere b (sound .sized) place here o)
@@ -123,7 +123,7 @@ stored-sound step given b sound place here o above good =
       coded = λ e. ap valuesOf back ∙ sym (stored-raw b (sound .sized) place here o);
       rests = λ e. rw back good;
     })
-    (λ p n h e f i. let least = sound .each p h .rests e .given-already in let same = i ∙ ap (λ (x : Order). x .number) back in omega arith)
+    (λ p n h e f i. let least = sound .each p h .rests e .given-already in let same = i ∙ ap (λ (x : Resting). x .number) back in omega arith)
   where
     back : orderAt (stored b place o) place ≡ o
     back = stored-order b (sound .sized) place here o (legal-limit step (o .limit) (good .legal))

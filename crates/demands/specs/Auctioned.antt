@@ -13,9 +13,9 @@ use lib.ListN.{length, drop, length-append, length-drop}
 use lib.Seq.{drop-at}
 use Rattle.lists.specs.Tests.{tests, decided}
 use Rattle.lists.specs.Sums.{_∈_, counted, sum, sum-none, sum-map, le-sum}
-use Rattle.terms.specs.Orders.{auctionNumber}
+use Rattle.terms.specs.Orders.{Resting, auctionNumber}
 use Rattle.terms.specs.Bounds.{places, maxTrades, numbersPerTrade, tradeListLength}
-use Rattle.terms.specs.declared.orders.{Side.Side, Side.the-variants.Buy, Side.the-variants.Sell, Auction.Auction, Auction.the-variants.Opening, Auction.the-variants.Closing, Validity.Validity, Validity.the-variants.AtOpening, Validity.the-variants.AtClose, Validity.the-variants.Day, Validity.the-variants.LaterDay, Order.Order}
+use Rattle.terms.specs.declared.orders.{Side.Side, Side.the-variants.Buy, Side.the-variants.Sell, Auction.Auction, Auction.the-variants.Opening, Auction.the-variants.Closing, Validity.Validity, Validity.the-variants.AtOpening, Validity.the-variants.AtClose, Validity.the-variants.Day, Validity.the-variants.LaterDay}
 use Rattle.book.specs.declared.Book.{Book}
 use Rattle.places.specs.Places.{isTaken}
 use Rattle.book.specs.Columns.{orderAt}
@@ -78,7 +78,7 @@ pub record BoughtIsSold (s : Session) (a : Auction) (l : AuctionLeaves) : Type 0
 
 -- C3. If an order gets anything, every better ranked order of its side that takes part is filled.
 abbrev pub NobodyPassedOver : Session → Auction → AuctionLeaves → Type 0
-NobodyPassedOver s a l = (side : Side) (x y : Order) → x ∈ part s a → y ∈ part s a → T (onSide side x) → T (onSide side y) → T (ahead side x y) → 0 < traded side (y .number) (listed l)
+NobodyPassedOver s a l = (side : Side) (x y : Resting) → x ∈ part s a → y ∈ part s a → T (onSide side x) → T (onSide side y) → T (ahead side x y) → 0 < traded side (y .number) (listed l)
     → traded side (x .number) (listed l) ≡ x .left
 
 -- C4. Nothing left: among what is left of those taking part, the executable quantity at every price is 0; and so it is among those of the
@@ -105,13 +105,13 @@ pub record ListWritten (s : Session) (a : Auction) (list : List ℕ) (l : Auctio
 -- free place stays as it was. Those that don't take part trade nothing and stay as they were.
 pub record BookAfter (s : Session) (a : Auction) (l : AuctionLeaves) : Type 0 where
   pub at-each : (p : ℕ) → p < places → AfterAt (restOf a (listed l)) (s .book) (l .returned .session .book) p
-  pub trade-nothing : (o : Order) → o ∈ resting (s .book) → T (not (takesPart a (o .validity))) → traded (o .side) (o .number) (listed l) ≡ 0
+  pub trade-nothing : (o : Resting) → o ∈ resting (s .book) → T (not (takesPart a (o .validity))) → traded (o .side) (o .number) (listed l) ≡ 0
   pub others : (p : ℕ) → p < places → isTaken (s .book .taken) p ≡ true → T (not (takesPart a (orderAt (s .book) p .validity)))
       → (isTaken (l .returned .session .book .taken) p ≡ true) × (orderAt (l .returned .session .book) p ≡ orderAt (s .book) p)
 
 -- those that don't take part are named by no trade
-untouched : (p : ℕ) (a : Auction) (orders : List Order) (ts : List Trade) → Distinct orders → TradeList p (takingPart a orders) ts
-    → (o : Order) → o ∈ orders → T (not (takesPart a (o .validity))) → traded (o .side) (o .number) ts ≡ 0
+untouched : (p : ℕ) (a : Auction) (orders : List Resting) (ts : List Trade) → Distinct orders → TradeList p (takingPart a orders) ts
+    → (o : Resting) → o ∈ orders → T (not (takesPart a (o .validity))) → traded (o .side) (o .number) ts ≡ 0
 unfolding traded
 untouched p a orders ts d possible o m away = sum-none _ ts (λ t n. go t n (eqb (party (o .side) t) (o .number)) (eqb→eq (party (o .side) t) (o .number)))
   where
@@ -124,7 +124,7 @@ untouched p a orders ts d possible o m away = sum-none _ ts (λ t n. go t n (eqb
         absurd (T-not (takesPart a (o .validity)) away (rw same at part))
 
 -- .. and rest as they are: only at-the-close orders stay away, and only from the opening, which doesn't end them
-stays-whole : (a : Auction) (ts : List Trade) (o : Order) → traded (o .side) (o .number) ts ≡ 0 → 0 < o .left → T (not (takesPart a (o .validity))) → restOf a ts o ≡ some o
+stays-whole : (a : Auction) (ts : List Trade) (o : Resting) → traded (o .side) (o .number) ts ≡ 0 → 0 < o .left → T (not (takesPart a (o .validity))) → restOf a ts o ≡ some o
 unfolding restOf
 stays-whole a ts o e live away =
     let whole : o .left - traded (o .side) (o .number) ts ≡ o .left = omega (arith, e) in
@@ -139,7 +139,7 @@ stays-whole a ts o e live away =
 
 -- what rests afterwards and takes part is what is left of those that took part
 module _ (step given : ℕ) (a : Auction) (ts : List Trade) (b : Book) (sound : SoundBook step given b) where
-  rest-remains : (o x : Order) → restOf a ts o ≡ some x → x ≡ remaining ts o
+  rest-remains : (o x : Resting) → restOf a ts o ≡ some x → x ≡ remaining ts o
   unfolding restOf
   rest-remains o x = go (leaves a (remaining ts o))
     where
@@ -151,19 +151,19 @@ module _ (step given : ℕ) (a : Auction) (ts : List Trade) (b : Book) (sound : 
   unfolding interest
   after-interest side q none-left = sum-none wants (takingPart a (resting (changed (restOf a ts) b))) each
     where
-      wants : Order → ℕ
+      wants : Resting → ℕ
       wants o = counted (accepts side q o) (o .left)
 
       nothing : (m n : ℕ) → m ≤ n → n ≡ 0 → m ≡ 0
       nothing m n h e = omega arith
 
-      each : (x : Order) → x ∈ takingPart a (resting (changed (restOf a ts) b)) → wants x ≡ 0
+      each : (x : Resting) → x ∈ takingPart a (resting (changed (restOf a ts) b)) → wants x ≡ 0
       each x m =
           let (here, takes) = takingPart-elim a (resting (changed (restOf a ts) b)) m in
           let (o, rested, left) = changed-resting step given (restOf a ts) (rest-keeps step given a ts) b sound x .0 here in
           let is = rest-remains o x left in
           let took = takingPart-intro a rested (rw is at takes) in
-          rw is (nothing _ _ (le-sum (λ (y : Order). wants (remaining ts y)) took) (sym (sum-map wants (remaining ts) (takingPart a (resting b))) ∙ none-left))
+          rw is (nothing _ _ (le-sum (λ (y : Resting). wants (remaining ts y)) took) (sym (sum-map wants (remaining ts) (takingPart a (resting b))) ∙ none-left))
 
   after-executable : (q : ℕ) → executable (map (remaining ts) (takingPart a (resting b))) q ≡ 0 → executable (takingPart a (resting (changed (restOf a ts) b))) q ≡ 0
   after-executable q e =
@@ -251,7 +251,7 @@ module _ (s : Session) (sound : Sound s) (a : Auction) (list : List ℕ) (room :
         as-long = length-append (quadruples price (tradesNow s a)) rest ∙ rw (length-drop (numbersPerTrade * length (tradesNow s a)) list) (omega (arith, size, law .at-most, room));
       }
 
-  away-done : (o : Order) → o ∈ resting (s .book) → T (not (takesPart a (o .validity))) → traded (o .side) (o .number) (tradesNow s a) ≡ 0
+  away-done : (o : Resting) → o ∈ resting (s .book) → T (not (takesPart a (o .validity))) → traded (o .side) (o .number) (tradesNow s a) ≡ 0
   away-done = untouched (priceAnswered (outcomeOf s a)) a (resting (s .book)) (tradesNow s a) (ranged .distinct) (rw read-done at (list-done .within-limits))
 
   after-done : (p : ℕ) → p < places → AfterAt (restOf a (tradesNow s a)) (s .book) (sessionAfter s a (part s a) (outcomeOf s a) .book) p

@@ -9,7 +9,8 @@ use Rattle.lists.specs.Tests.{and-both}
 use Rattle.lists.specs.Sums.{_∈_, counted}
 use Rattle.terms.specs.Bounds.{places}
 use Rattle.terms.specs.Made.{Asked, entry-asks}
-use Rattle.terms.specs.declared.orders.{Order.Order, Entry.Entry}
+use Rattle.terms.specs.Orders.{Resting}
+use Rattle.terms.specs.declared.orders.{Entry.Entry}
 use Rattle.places.specs.Places.{isTaken, lowestFree, countTaken, total}
 use Rattle.places.specs.Words.{lowest-free-clear, lowest-free-least, count-is-taken}
 use Rattle.book.specs.Columns.{orderFrom, orderAt}
@@ -36,7 +37,7 @@ lowest-free words = record { below-taken = lowest-free-least words; itself-free 
 pub record Entered (s : Session) (e : Entry) : Type 0 where
   pub asked : Asked (s .given + 1) e
   pub session-after : entered s e .session ≡ enteredSession s e
-  pub rests : (x : Order) → (x ∈ resting (enteredSession s e .book)) ↔ ((x ∈ resting (s .book)) ⊎ (x ≡ asked .order))
+  pub rests : (x : Resting) → (x ∈ resting (enteredSession s e .book)) ↔ ((x ∈ resting (s .book)) ⊎ (x ≡ asked .order))
   pub at-lowest : orderAt (enteredSession s e .book) (lowestFree (s .book .taken)) ≡ asked .order
   pub elsewhere : (p : ℕ) → p ≢ lowestFree (s .book .taken) → orderAt (enteredSession s e .book) p ≡ orderAt (s .book) p
 
@@ -60,7 +61,7 @@ accepted-entry s e sound h =
 pub record Deleted (s : Session) (number member : ℕ) : Type 0 where
   pub session-after : deleted s number member .session ≡ deletedSession s number member
   pub was-there : T (isOf number member (orderAt (s .book) (placeOf (isOf number member) (s .book))))
-  pub rests : (x : Order) → (x ∈ resting (deletedSession s number member .book)) ↔ ((x ∈ resting (s .book)) × (x .number ≢ number))
+  pub rests : (x : Resting) → (x ∈ resting (deletedSession s number member .book)) ↔ ((x ∈ resting (s .book)) × (x .number ≢ number))
 
 pub accepted-deletion : (s : Session) (number member : ℕ) → Sound s → firstHit (deleteChecks s number member) ≡ 0 → Deleted s number member
 unfolding deleted

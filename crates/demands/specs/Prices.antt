@@ -7,8 +7,8 @@ use lib.Dec.{T}
 use Rattle.lists.specs.Sums.{_∈_, apart}
 use Rattle.lists.specs.Choice.{smallest}
 use Rattle.terms.specs.Kinds.{isReference}
-use Rattle.terms.specs.Orders.{isLegal}
-use Rattle.terms.specs.declared.orders.{Auction.Auction, Order.Order}
+use Rattle.terms.specs.Orders.{Resting, isLegal}
+use Rattle.terms.specs.declared.orders.{Auction.Auction}
 use Rattle.queue.specs.Part.{takingPart, takingPart-elim}
 use Rattle.price.specs.Interest.{executable}
 use Rattle.price.specs.Candidates.{mostExecutable, candidates-suffice}
@@ -16,15 +16,15 @@ use Rattle.price.specs.Chain.{kept, auctionPrice, nearest-one}
 use Rattle.price.specs.Legal.{price-legal}
 
 -- B5.
-pub no-price-executes-more : (a : Auction) (reference : ℕ) (resting : List Order) (p : ℕ) → executable (takingPart a resting) p ≤ mostExecutable reference (takingPart a resting)
+pub no-price-executes-more : (a : Auction) (reference : ℕ) (resting : List Resting) (p : ℕ) → executable (takingPart a resting) p ≤ mostExecutable reference (takingPart a resting)
 no-price-executes-more a reference resting p = candidates-suffice reference (takingPart a resting) p
 
 -- B6. `kept` is what steps 1 and 2 keep.
-pub one-nearest : (a : Auction) (reference : ℕ) (resting : List Order) {p q : ℕ} → p ∈ smallest (apart reference) (kept reference (takingPart a resting))
+pub one-nearest : (a : Auction) (reference : ℕ) (resting : List Resting) {p q : ℕ} → p ∈ smallest (apart reference) (kept reference (takingPart a resting))
     → q ∈ smallest (apart reference) (kept reference (takingPart a resting)) → p ≡ q
 one-nearest a reference resting m n = nearest-one reference (takingPart a resting) m n
 
 -- B7.
-pub price-is-legal : (a : Auction) (step reference : ℕ) (resting : List Order) → T (isReference step reference) → ((o : Order) → o ∈ resting → T (isLegal step (o .limit)))
+pub price-is-legal : (a : Auction) (step reference : ℕ) (resting : List Resting) → T (isReference step reference) → ((o : Resting) → o ∈ resting → T (isLegal step (o .limit)))
     → (p : ℕ) → auctionPrice reference (takingPart a resting) ≡ some p → T (isReference step p)
 price-is-legal a step reference resting r legal p e = price-legal step reference (takingPart a resting) r (λ o m. legal o (takingPart-elim a resting m .0)) p e

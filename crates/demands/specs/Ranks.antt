@@ -11,8 +11,8 @@ use lib.Seq.{take-at, drop-at}
 use Rattle.lists.specs.Sums.{_∈_, counted, counted-le, sum, sum-mono, sum-ones}
 use Rattle.lists.specs.Ranking.{Ranked}
 use Rattle.terms.specs.Bounds.{places}
-use Rattle.terms.specs.Orders.{auctionNumber, sideOf, sideNumber}
-use Rattle.terms.specs.declared.orders.{Side.Side, Side.the-variants.Buy, Side.the-variants.Sell, SideMade.SideMade, Auction.Auction, Order.Order}
+use Rattle.terms.specs.Orders.{Resting, auctionNumber, sideOf, sideNumber}
+use Rattle.terms.specs.declared.orders.{Side.Side, Side.the-variants.Buy, Side.the-variants.Sell, SideMade.SideMade, Auction.Auction}
 use Rattle.book.specs.Resting.{resting}
 use Rattle.queue.specs.Part.{takesPart, takingPart, takingPart-distinct, takingPart-elim, takingPart-intro, takingPart-length}
 use Rattle.queue.specs.Distinct.{Distinct}
@@ -29,22 +29,22 @@ use Rattle.demands.specs.Traded.{sound-ranged}
 use Rattle.demands.specs.Outcomes.{auction-numbered}
 
 pub record RankOrder (s : Side) : Type 0 where
-  pub irreflexive : (a : Order) → T (ahead s a a) → ⊥
-  pub transitive : (a b c : Order) → T (ahead s a b) → T (ahead s b c) → T (ahead s a c)
-  pub total : (a b : Order) → a .number ≢ b .number → T (ahead s a b) ⊎ T (ahead s b a)
+  pub irreflexive : (a : Resting) → T (ahead s a a) → ⊥
+  pub transitive : (a b c : Resting) → T (ahead s a b) → T (ahead s b c) → T (ahead s a c)
+  pub total : (a b : Resting) → a .number ≢ b .number → T (ahead s a b) ⊎ T (ahead s b a)
 
 -- B4, the order.
 pub rank-order : (s : Side) → RankOrder s
 rank-order s = record { irreflexive = ahead-irrefl s; transitive = ahead-trans s; total = ahead-total s }
 
-pub record RankedQueue (s : Side) (a : Auction) (resting : List Order) : Type 0 where
+pub record RankedQueue (s : Side) (a : Auction) (resting : List Resting) : Type 0 where
   pub in-order : Ranked (ahead s) (ranked s (takingPart a resting))
-  pub exactly : (o : Order) → (o ∈ ranked s (takingPart a resting)) ↔ ((o ∈ resting) × T (takesPart a (o .validity)) × T (onSide s o))
+  pub exactly : (o : Resting) → (o ∈ ranked s (takingPart a resting)) ↔ ((o ∈ resting) × T (takesPart a (o .validity)) × T (onSide s o))
   -- each as often as it takes part
-  pub as-often : (w : Order → ℕ) → sum w (ranked s (takingPart a resting)) ≡ sum (λ o. counted (onSide s o) (w o)) (takingPart a resting)
+  pub as-often : (w : Resting → ℕ) → sum w (ranked s (takingPart a resting)) ≡ sum (λ o. counted (onSide s o) (w o)) (takingPart a resting)
 
 -- B4, the queue.
-pub ranked-queue : (s : Side) (a : Auction) (resting : List Order) → Distinct resting → RankedQueue s a resting
+pub ranked-queue : (s : Side) (a : Auction) (resting : List Resting) → Distinct resting → RankedQueue s a resting
 ranked-queue s a resting d = record {
   in-order = ranked-in-order s (takingPart a resting) (takingPart-distinct a resting d);
   exactly = λ o. (
@@ -55,7 +55,7 @@ ranked-queue s a resting d = record {
 }
 
 -- B4, places: the same orders at other places have the same ranked queue.
-pub ranked-by-no-place : (s : Side) (a : Auction) (resting moved : List Order) → Distinct resting → Distinct moved → ((o : Order) → (o ∈ resting) ↔ (o ∈ moved))
+pub ranked-by-no-place : (s : Side) (a : Auction) (resting moved : List Resting) → Distinct resting → Distinct moved → ((o : Resting) → (o ∈ resting) ↔ (o ∈ moved))
     → ranked s (takingPart a resting) ≡ ranked s (takingPart a moved)
 ranked-by-no-place s a resting moved d e same =
     ranked-same s (takingPart a resting) (takingPart a moved) (takingPart-distinct a resting d) (takingPart-distinct a moved e)
@@ -77,7 +77,7 @@ side-numbered Buy = refl
 side-numbered Sell = refl
 
 -- a queue is no longer than its book
-queue-few : (side : Side) (book : List Order) → length (ranked side book) ≤ length book
+queue-few : (side : Side) (book : List Resting) → length (ranked side book) ≤ length book
 queue-few side book = omega (
   arith,
   sum-ones (ranked side book),
@@ -98,7 +98,7 @@ queue-listed s sound side a list accepted =
     numbers = rankedNumbers s side a
 
     as-many : length numbers ≡ length (ranked side (part s a))
-    as-many = length-map (ranked side (part s a)) (λ (o : Order). o .number)
+    as-many = length-map (ranked side (part s a)) (λ (o : Resting). o .number)
 
     few : length numbers ≤ places
     few = omega (arith, as-many, queue-few side (part s a), takingPart-length a (resting (s .book)), sound-ranged s sound .few)

@@ -9,8 +9,8 @@ use lib.ListN.{length}
 use Rattle.lists.specs.Tests.{tests}
 use Rattle.lists.specs.Sums.{_∈_}
 use Rattle.lists.specs.Ranking.{Ranked}
-use Rattle.terms.specs.declared.orders.{Auction.Auction, AuctionMade.AuctionMade, Order.Order, Entry.Entry}
-use Rattle.terms.specs.Orders.{auctionOf}
+use Rattle.terms.specs.declared.orders.{Auction.Auction, AuctionMade.AuctionMade, Entry.Entry}
+use Rattle.terms.specs.Orders.{Resting, auctionOf}
 use Rattle.terms.specs.declared.parameters.{Parameters.Parameters}
 use Rattle.auction.specs.declared.{Outcome.Outcome, Outcome.the-variants.Traded, Outcome.the-variants.NoTrade, Outcome.the-variants.NonOpening, Outcome.the-variants.Delayed}
 use Rattle.session.specs.declared.{Session.Session}
@@ -104,7 +104,7 @@ given-deleted : (n : ℕ) (s : Session) (number member : ℕ) → deleteAnswer n
 given-deleted zero s number member = refl
 given-deleted (suc n) s number member = refl
 
-given-after : (s : Session) (a : Auction) (book : List Order) (o : Outcome) → sessionAfter s a book o .given ≡ s .given
+given-after : (s : Session) (a : Auction) (book : List Resting) (o : Outcome) → sessionAfter s a book o .given ≡ s .given
 given-after s a book (Traded price quantity) = refl
 given-after s a book NoTrade = refl
 given-after s a book NonOpening = refl

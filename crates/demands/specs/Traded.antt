@@ -9,7 +9,8 @@ use lib.Dec.{T}
 use lib.ListN.{length}
 use Rattle.lists.specs.Sums.{_∈_, counted, sum}
 use Rattle.terms.specs.Bounds.{places, maxTrades}
-use Rattle.terms.specs.declared.orders.{Side.Side, Auction.Auction, Auction.the-variants.Opening, Auction.the-variants.Closing, Order.Order}
+use Rattle.terms.specs.Orders.{Resting}
+use Rattle.terms.specs.declared.orders.{Side.Side, Auction.Auction, Auction.the-variants.Opening, Auction.the-variants.Closing}
 use Rattle.book.specs.Resting.{resting}
 use Rattle.book.specs.Rests.{resting-length}
 use Rattle.session.specs.declared.{Session.Session}
@@ -32,9 +33,9 @@ use Rattle.auction.specs.Left.{nothing-left}
 use Rattle.auction.specs.NonOpening.{Fillable, non-opening-exactly}
 
 -- What every book has: distinct numbers, something open in each order, and no more orders than places.
-pub record Ranged (resting : List Order) : Type 0 where
+pub record Ranged (resting : List Resting) : Type 0 where
   pub distinct : Distinct resting
-  pub live : (o : Order) → o ∈ resting → 0 < o .left
+  pub live : (o : Resting) → o ∈ resting → 0 < o .left
   pub few : length resting ≤ places
 
 -- every session that can be reached has such a book (A6)
@@ -46,9 +47,9 @@ sound-ranged s sound = record {
 }
 
 -- An auction of the resting orders: its mark, threshold and reference price are any.
-module _ (a : Auction) (delayed : Bool) (threshold reference : ℕ) (resting : List Order) where
+module _ (a : Auction) (delayed : Bool) (threshold reference : ℕ) (resting : List Resting) where
   -- those taking part, the outcome, its quantity and its trades
-  abbrev pub book : List Order
+  abbrev pub book : List Resting
   book = takingPart a resting
 
   abbrev pub result : Outcome
@@ -108,7 +109,7 @@ module _ (a : Auction) (delayed : Bool) (threshold reference : ℕ) (resting : L
         }
 
     -- C3. If an order gets anything, every better ranked order of its side that takes part is filled.
-    pub nobody-passed-over : (s : Side) (x y : Order) → x ∈ book → y ∈ book → T (onSide s x) → T (onSide s y) → T (ahead s x y) → 0 < traded s (y .number) done
+    pub nobody-passed-over : (s : Side) (x y : Resting) → x ∈ book → y ∈ book → T (onSide s x) → T (onSide s y) → T (ahead s x y) → 0 < traded s (y .number) done
         → traded s (x .number) done ≡ x .left
     nobody-passed-over s x y mx my sx sy k = let g = took-place h in rw (g .exact) (trades-in-order (priceAnswered result) quantity book distinct (g .enough) s x y mx my sx sy k)
 
@@ -137,7 +138,7 @@ module _ (a : Auction) (delayed : Bool) (threshold reference : ℕ) (resting : L
         }
 
 -- C5. Non Opening exactly when no trade list at any price fills every unlimited order taking part ..
-pub non-opening-when-unfillable : (delayed : Bool) (threshold reference : ℕ) (resting : List Order) → Distinct resting
+pub non-opening-when-unfillable : (delayed : Bool) (threshold reference : ℕ) (resting : List Resting) → Distinct resting
     → (result Opening delayed threshold reference resting ≡ NonOpening) ↔ (Fillable (takingPart Opening resting) → ⊥)
 non-opening-when-unfillable delayed threshold reference resting d =
     let exactly = non-opening-exactly reference (takingPart Opening resting) (takingPart-distinct Opening resting d) in
@@ -145,5 +146,5 @@ non-opening-when-unfillable delayed threshold reference resting d =
     ((λ e. exactly .0 (prevents .0 e)), (λ no. prevents .1 (exactly .1 no)))
 
 -- .. and a closing is never held back
-pub every-closing-takes-place : (delayed : Bool) (threshold reference : ℕ) (resting : List Order) → T (takesPlace (result Closing delayed threshold reference resting))
+pub every-closing-takes-place : (delayed : Bool) (threshold reference : ℕ) (resting : List Resting) → T (takesPlace (result Closing delayed threshold reference resting))
 every-closing-takes-place delayed threshold reference resting = closing-takes-place delayed threshold reference (takingPart Closing resting)

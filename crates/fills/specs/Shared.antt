@@ -9,22 +9,22 @@ use lib.Dec.{eqb}
 use lib.ListN.{length, getD, set, take, length-set}
 use lib.Seq.{getD-set-same, getD-set-other}
 use Rattle.lists.specs.Sums.{_∈_, counted}
-use Rattle.terms.specs.declared.orders.{Order.Order}
+use Rattle.terms.specs.Orders.{Resting}
 use Rattle.queue.specs.Ranks.{placeOfRank}
 use Rattle.fills.specs.Fill.{fill, filledBy, hasNumber}
 use Rattle.fills.specs.Shares.{sharesOf, lessened}
 
-pub shares-fill : (total : ℕ) (os : List Order) → sharesOf total (map (λ o. o .left) os) ≡ map (λ x. x .quantity) (fill total os)
+pub shares-fill : (total : ℕ) (os : List Resting) → sharesOf total (map (λ o. o .left) os) ≡ map (λ x. x .quantity) (fill total os)
 unfolding sharesOf
 shares-fill total [] = refl
 shares-fill zero (o ∷ os) = refl
 shares-fill (suc total) (o ∷ os) = ap (λ (l : List ℕ). min (suc total) (o .left) ∷ l) (shares-fill (suc total - o .left) os)
 
 -- those filled are the first of the queue
-pub fill-orders : (total : ℕ) (os : List Order) → map (λ x. x .order) (fill total os) ≡ take (length (fill total os)) os
+pub fill-orders : (total : ℕ) (os : List Resting) → map (λ x. x .order) (fill total os) ≡ take (length (fill total os)) os
 fill-orders total [] = refl
 fill-orders zero (o ∷ os) = refl
-fill-orders (suc total) (o ∷ os) = ap (λ (l : List Order). o ∷ l) (fill-orders (suc total - o .left) os)
+fill-orders (suc total) (o ∷ os) = ap (λ (l : List Resting). o ∷ l) (fill-orders (suc total - o .left) os)
 
 -- what the shares at the place p come to
 unfoldable pub sharedAt : List ℕ → List ℕ → ℕ → ℕ
@@ -59,7 +59,7 @@ lessened-at (r ∷ ranks) (q ∷ shares) lefts p h =
     )
 
 -- Where the orders of the ranks are told apart by place as by number, the shares at a place are what its order is filled with.
-pub shared-at-fill : (b-order : ℕ → Order) (ranks : List ℕ) (p n : ℕ) (total : ℕ)
+pub shared-at-fill : (b-order : ℕ → Resting) (ranks : List ℕ) (p n : ℕ) (total : ℕ)
     → ((r : ℕ) → r ∈ ranks → eqb (placeOfRank r) p ≡ eqb (b-order r .number) n)
     → sharedAt ranks (sharesOf total (map (λ r. b-order r .left) ranks)) p ≡ filledBy (hasNumber n) (fill total (map b-order ranks))
 unfolding sharedAt sharesOf

@@ -8,7 +8,8 @@ use native.Mathlib.Omega.{arith}
 use Rattle.lists.specs.Tests.{decided, and-both, and-intro}
 use Rattle.lists.specs.Sums.{_∈_, counted, counted-mono}
 use Rattle.lists.specs.Choice.{highest, le-highest}
-use Rattle.terms.specs.declared.orders.{Side.Side, Side.the-variants.Buy, Side.the-variants.Sell, Limit.Limit, Limit.the-variants.Unlimited, Limit.the-variants.At, Order.Order}
+use Rattle.terms.specs.Orders.{Resting}
+use Rattle.terms.specs.declared.orders.{Side.Side, Side.the-variants.Buy, Side.the-variants.Sell, Limit.Limit, Limit.the-variants.Unlimited, Limit.the-variants.At}
 use Rattle.queue.specs.Sides.{allows, noWorse-refl}
 use Rattle.queue.specs.Rank.{onSide}
 use Rattle.price.specs.Interest.{accepts, interest, executable, tighter, interest-mono}
@@ -18,16 +19,16 @@ abbrev pub addLimit : Limit → List ℕ → List ℕ
 addLimit Unlimited cs = cs
 addLimit (At l) cs = l ∷ cs
 
-abbrev pub limits : List Order → List ℕ
+abbrev pub limits : List Resting → List ℕ
 limits [] = []
 limits (o ∷ os) = addLimit (o .limit) (limits os)
 
 -- .. and the reference price
-abbrev pub candidates : ℕ → List Order → List ℕ
+abbrev pub candidates : ℕ → List Resting → List ℕ
 candidates reference book = reference ∷ limits book
 
 -- the highest executable quantity
-unfoldable pub mostExecutable : ℕ → List Order → ℕ
+unfoldable pub mostExecutable : ℕ → List Resting → ℕ
 mostExecutable reference book = highest (executable book) (candidates reference book)
 
 -- A wall of side s at p: a limit that allows p, such that no price that it allows makes f smaller than at p.
@@ -55,7 +56,7 @@ wall-add s p cs f g (v, lv, pv, hv) (w, lw, pw, hw) =
     (tighter s v w)
 
 -- of one order: its limit, where it accepts p; and no limit at all, where it does not
-wall-order : (s : Side) (p : ℕ) (cs : List ℕ) (o : Order) → Wall s p (addLimit (o .limit) cs) (λ q. counted (accepts s q o) (o .left))
+wall-order : (s : Side) (p : ℕ) (cs : List ℕ) (o : Resting) → Wall s p (addLimit (o .limit) cs) (λ q. counted (accepts s q o) (o .left))
 wall-order s p cs o =
     ⊎-elim
     (λ h. let (same, fits) = and-both (onSide s o) _ h in
@@ -66,14 +67,14 @@ wall-order s p cs o =
 wall-weaken : (s : Side) (p : ℕ) (v : Limit) (cs : List ℕ) (f : ℕ → ℕ) → Wall s p cs f → Wall s p (addLimit v cs) f
 wall-weaken s p v cs f (w, l, k, h) = (w, listed-later v w cs l, k, h)
 
-wall : (s : Side) (p : ℕ) (book : List Order) → Wall s p (limits book) (λ q. interest s q book)
+wall : (s : Side) (p : ℕ) (book : List Resting) → Wall s p (limits book) (λ q. interest s q book)
 unfolding interest
 wall s p [] = (Unlimited, tt, tt, λ q k. omega arith)
 wall s p (o ∷ os) =
     wall-add s p _ (λ q. counted (accepts s q o) (o .left)) (λ q. interest s q os) (wall-order s p (limits os) o) (wall-weaken s p (o .limit) (limits os) _ (wall s p os))
 
 -- two walls: stand at one of them, or, where there is none, at the reference price
-pub candidate-as-good : (reference : ℕ) (book : List Order) (p : ℕ) → (c : ℕ) × (c ∈ candidates reference book) × (executable book p ≤ executable book c)
+pub candidate-as-good : (reference : ℕ) (book : List Resting) (p : ℕ) → (c : ℕ) × (c ∈ candidates reference book) × (executable book p ≤ executable book c)
 candidate-as-good reference book p = go (wall Buy p book) (wall Sell p book)
   where
     go : Wall Buy p (limits book) (λ q. interest Buy q book) → Wall Sell p (limits book) (λ q. interest Sell q book)
@@ -83,7 +84,7 @@ candidate-as-good reference book p = go (wall Buy p book) (wall Sell p book)
     go (Unlimited, l, k, h) (Unlimited, l', k', h') = (reference, List·Memᴰ·head refl, omega (arith, h reference tt, h' reference tt))
 
 -- Candidates suffice: no price has a higher executable quantity than the best candidate (B5).
-pub candidates-suffice : (reference : ℕ) (book : List Order) (p : ℕ) → executable book p ≤ mostExecutable reference book
+pub candidates-suffice : (reference : ℕ) (book : List Resting) (p : ℕ) → executable book p ≤ mostExecutable reference book
 unfolding mostExecutable
 candidates-suffice reference book p =
     let (c, listed, good) = candidate-as-good reference book p in

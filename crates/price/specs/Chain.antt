@@ -10,19 +10,20 @@ use native.Mathlib.Omega.{arith}
 use Rattle.lists.specs.Tests.{tests, decided}
 use Rattle.lists.specs.Sums.{_∈_, apart, apart-le, le-apart}
 use Rattle.lists.specs.Choice.{all, leaders, smallest, largest, leaders-elim, leaders-found, smallest-elim, smallest-intro, largest-elim, largest-intro, smallest-some, largest-some, highest-at, le-highest}
-use Rattle.terms.specs.declared.orders.{Side.the-variants.Buy, Side.the-variants.Sell, Order.Order}
+use Rattle.terms.specs.Orders.{Resting}
+use Rattle.terms.specs.declared.orders.{Side.the-variants.Buy, Side.the-variants.Sell}
 use Rattle.price.specs.Interest.{interest, demand, supply, executable, difference, interest-mono}
 use Rattle.price.specs.Candidates.{candidates, limits, mostExecutable, candidate-as-good}
 
 -- 1. Keep the candidates with the highest executable quantity.
 -- 2. Of these keep the ones with the smallest difference between demand and supply.
-abbrev pub kept : ℕ → List Order → List ℕ
+abbrev pub kept : ℕ → List Resting → List ℕ
 kept reference book = smallest (difference book) (largest (executable book) (candidates reference book))
 
-abbrev pub demandExceeds : List Order → ℕ → Bool
+abbrev pub demandExceeds : List Resting → ℕ → Bool
 demandExceeds book p = ltb (supply book p) (demand book p)
 
-abbrev pub supplyExceeds : List Order → ℕ → Bool
+abbrev pub supplyExceeds : List Resting → ℕ → Bool
 supplyExceeds book p = ltb (demand book p) (supply book p)
 
 -- 3. If demand exceeds supply at all of them, take the highest. If supply exceeds demand at all, take the lowest.
@@ -32,18 +33,18 @@ preferred true supplyAtAll reference p q = leb q p
 preferred false true reference p q = leb p q
 preferred false false reference p q = leb (apart reference p) (apart reference q)
 
-abbrev pub settled : ℕ → List Order → List ℕ → List ℕ
+abbrev pub settled : ℕ → List Resting → List ℕ → List ℕ
 settled reference book ps = leaders (preferred (all (demandExceeds book) ps) (all (supplyExceeds book) ps) reference) ps
 
 -- If the highest executable quantity is 0 there is no trade and no price.
-abbrev pub tradable : List Order → List ℕ → Option ℕ
+abbrev pub tradable : List Resting → List ℕ → Option ℕ
 tradable book [] = none
 tradable book (p ∷ ps) = cond (ltb 0 (executable book p)) (some p) none
 
-unfoldable pub auctionPrice : ℕ → List Order → Option ℕ
+unfoldable pub auctionPrice : ℕ → List Resting → Option ℕ
 auctionPrice reference book = tradable book (settled reference book (kept reference book))
 
-tradable-elim : (book : List Order) (ps : List ℕ) (p : ℕ) → tradable book ps ≡ some p → (p ∈ ps) × (0 < executable book p)
+tradable-elim : (book : List Resting) (ps : List ℕ) (p : ℕ) → tradable book ps ≡ some p → (p ∈ ps) × (0 < executable book p)
 tradable-elim book [] p e = let z : _≡_ {A = ℕ} 0 1 = cc in absurd (omega arith)
 tradable-elim book (q ∷ qs) p e = go (ltb 0 (executable book q)) (ltb→lt 0 (executable book q)) e
   where
@@ -51,7 +52,7 @@ tradable-elim book (q ∷ qs) p e = go (ltb 0 (executable book q)) (ltb→lt 0 (
     go true h e = let pq : p ≡ q = cc in (List·Memᴰ·head pq, rw pq (h tt))
     go false h e = let z : _≡_ {A = ℕ} 0 1 = cc in absurd (omega arith)
 
-tradable-intro : (book : List Order) (ps : List ℕ) (p : ℕ) → p ∈ ps → 0 < executable book p → ((a : ℕ) → a ∈ ps → p ≡ a) → tradable book ps ≡ some p
+tradable-intro : (book : List Resting) (ps : List ℕ) (p : ℕ) → p ∈ ps → 0 < executable book p → ((a : ℕ) → a ∈ ps → p ≡ a) → tradable book ps ≡ some p
 tradable-intro book [] p m h one = absurd (List·Memᴰ·not-nil m)
 tradable-intro book (q ∷ qs) p m h one = rw (← one q (List·Memᴰ·head refl)) (go (ltb 0 (executable book p)) (omega tests))
   where
@@ -59,7 +60,7 @@ tradable-intro book (q ∷ qs) p m h one = rw (← one q (List·Memᴰ·head ref
     go true k = refl
     go false k = absurd k
 
-tradable-none : (book : List Order) (ps : List ℕ) → ((p : ℕ) → executable book p ≡ 0) → tradable book ps ≡ none
+tradable-none : (book : List Resting) (ps : List ℕ) → ((p : ℕ) → executable book p ≡ 0) → tradable book ps ≡ none
 tradable-none book [] h = refl
 tradable-none book (q ∷ qs) h = rw (h q)
 
@@ -74,7 +75,7 @@ preferred-trans false true reference p q r h k = omega tests
 preferred-trans false false reference p q r h k = omega tests
 
 -- What is kept has no gaps: a candidate between two that are kept is kept.
-module _ (reference : ℕ) (book : List Order) where
+module _ (reference : ℕ) (book : List Resting) where
   kept-elim : {a : ℕ} → a ∈ kept reference book → (a ∈ candidates reference book) × ((y : ℕ) → y ∈ candidates reference book → executable book y ≤ executable book a)
       × ((y : ℕ) → y ∈ largest (executable book) (candidates reference book) → difference book a ≤ difference book y)
   kept-elim m =

@@ -9,7 +9,8 @@ use lib.Dec.{T, ltb}
 use lib.ListN.{length, getD, take}
 use lib.Seq.{getD-take}
 use Rattle.lists.specs.Sums.{_∈_, counted, counted-and, sum, sum-same}
-use Rattle.terms.specs.declared.orders.{Side.Side, Order.Order}
+use Rattle.terms.specs.Orders.{Resting}
+use Rattle.terms.specs.declared.orders.{Side.Side}
 use Rattle.queue.specs.Sides.{allows}
 use Rattle.queue.specs.Distinct.{Distinct}
 use Rattle.fills.specs.Fill.{none-pass, FrontPart, ranked-front}
@@ -20,7 +21,7 @@ use Rattle.price.specs.Interest.{interest, allows-ahead}
 use Rattle.price.specs.Search.{countBelow, sumBelow, offered}
 use Rattle.price.specs.Below.{count-le}
 
-module _ (f : Order → Bool) (bound : ℕ) (orderOf : ℕ → Order) where
+module _ (f : Resting → Bool) (bound : ℕ) (orderOf : ℕ → Resting) where
   -- the sum of as many first orders as there are ranks below the bound
   front-sum : (total : ℕ) (ranks : List ℕ) → ((r : ℕ) → r ∈ ranks → ltb r bound ≡ f (orderOf r)) → FrontPart f (map orderOf ranks)
       → getD (sumsFrom total (map (λ r. orderOf r .left) ranks)) (countBelow bound ranks) 0 ≡ total + sum (λ o. counted (f o) (o .left)) (map orderOf ranks)
@@ -32,14 +33,14 @@ module _ (f : Order → Bool) (bound : ℕ) (orderOf : ℕ → Order) where
       rest : ℕ
       rest = sum (λ o. counted (f o) (o .left)) (map orderOf ranks)
 
-      go : (b : Bool) → ((x : Order) → x ∈ map orderOf ranks → T (f x) → T b)
+      go : (b : Bool) → ((x : Resting) → x ∈ map orderOf ranks → T (f x) → T b)
           → getD (sumsFrom (total + orderOf r .left) (map (λ r. orderOf r .left) ranks)) (countBelow bound ranks) 0 ≡ total + orderOf r .left + rest
           → getD (total ∷ sumsFrom (total + orderOf r .left) (map (λ r. orderOf r .left) ranks)) (cond b (suc (countBelow bound ranks)) 0) 0 ≡ total + (counted b (orderOf r .left) + rest)
       go true h e = omega arith
       go false h e = omega (arith, none-pass f (map orderOf ranks) h)
 
 -- What the orders with ranks below the bound have open, where they are those that pass the test.
-pub sum-below-front : (f : Order → Bool) (bound : ℕ) (orderOf : ℕ → Order) (ranks sums : List ℕ)
+pub sum-below-front : (f : Resting → Bool) (bound : ℕ) (orderOf : ℕ → Resting) (ranks sums : List ℕ)
     → take (length ranks + 1) sums ≡ sumsFrom 0 (map (λ r. orderOf r .left) ranks)
     → ((r : ℕ) → r ∈ ranks → ltb r bound ≡ f (orderOf r))
     → FrontPart f (map orderOf ranks)
@@ -49,7 +50,7 @@ sum-below-front f bound orderOf ranks sums listed same front =
     ∙ rw listed (front-sum f bound orderOf 0 ranks same front ∙ zero-add _)
 
 -- What a side offers at a price by its ladder is its interest there.
-pub offered-is-interest : (s : Side) (p : ℕ) (book : List Order) → Distinct book → (orderOf : ℕ → Order) (ranks sums : List ℕ)
+pub offered-is-interest : (s : Side) (p : ℕ) (book : List Resting) → Distinct book → (orderOf : ℕ → Resting) (ranks sums : List ℕ)
     → map orderOf ranks ≡ ranked s book
     → take (length ranks + 1) sums ≡ sumsFrom 0 (map (λ r. orderOf r .left) ranks)
     → ((r : ℕ) → r ∈ ranks → ltb r (rankBound s p) ≡ allows s p (orderOf r .limit))
@@ -60,5 +61,5 @@ offered-is-interest s p book d orderOf ranks sums queue listed same =
     ∙ rw queue (ranked-sum s book (λ o. counted (fits o) (o .left))
     ∙ sum-same (λ o. counted (onSide s o) (counted (fits o) (o .left))) (λ o. counted (onSide s o && fits o) (o .left)) book (λ o m. sym (counted-and (onSide s o) (fits o) (o .left))))
   where
-    fits : Order → Bool
+    fits : Resting → Bool
     fits o = allows s p (o .limit)

@@ -6,12 +6,12 @@ use mathlib.Core.List.{List, [], _∷_, List·Memᴰ·head, List·Memᴰ·tail, 
 use lib.Dec.{T}
 use Rattle.lists.specs.Sums.{_∈_}
 use Rattle.terms.specs.Kinds.{isReference}
-use Rattle.terms.specs.Orders.{isLegal}
-use Rattle.terms.specs.declared.orders.{Limit.Limit, Limit.the-variants.Unlimited, Limit.the-variants.At, Order.Order}
+use Rattle.terms.specs.Orders.{Resting, isLegal}
+use Rattle.terms.specs.declared.orders.{Limit.Limit, Limit.the-variants.Unlimited, Limit.the-variants.At}
 use Rattle.price.specs.Candidates.{addLimit, limits, candidates}
 use Rattle.price.specs.Chain.{auctionPrice, price-candidate}
 
-limits-all : (P : ℕ → Type 0) (ask : Limit → Type 0) → ((p : ℕ) → ask (At p) → P p) → (book : List Order) → ((o : Order) → o ∈ book → ask (o .limit)) → (p : ℕ) → p ∈ limits book → P p
+limits-all : (P : ℕ → Type 0) (ask : Limit → Type 0) → ((p : ℕ) → ask (At p) → P p) → (book : List Resting) → ((o : Resting) → o ∈ book → ask (o .limit)) → (p : ℕ) → p ∈ limits book → P p
 limits-all P ask told [] h p m = absurd (List·Memᴰ·not-nil m)
 limits-all P ask told (o ∷ os) h p m = go (o .limit) (h o (List·Memᴰ·head refl)) (limits-all P ask told os (λ x n. h x (List·Memᴰ·tail n)) p) m
   where
@@ -21,7 +21,7 @@ limits-all P ask told (o ∷ os) h p m = go (o .limit) (h o (List·Memᴰ·head 
     go (At l) k below (List·Memᴰ·tail m) = below m
 
 -- The auction price is a price and a multiple of the step, where the limits and the reference price are (B7).
-pub price-legal : (step reference : ℕ) (book : List Order) → T (isReference step reference) → ((o : Order) → o ∈ book → T (isLegal step (o .limit)))
+pub price-legal : (step reference : ℕ) (book : List Resting) → T (isReference step reference) → ((o : Resting) → o ∈ book → T (isLegal step (o .limit)))
     → (p : ℕ) → auctionPrice reference book ≡ some p → T (isReference step p)
 price-legal step reference book r h p e = go (price-candidate reference book p e)
   where

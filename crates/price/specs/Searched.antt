@@ -11,7 +11,8 @@ use native.Mathlib.Omega.{arith}
 use Rattle.lists.specs.Tests.{tests, decided, same-test}
 use Rattle.lists.specs.Sums.{_∈_, apart}
 use Rattle.lists.specs.Choice.{all, all-elim, all-intro, leaders, leaders-elim, leaders-intro, smallest-elim, smallest-intro, largest, largest-elim, largest-intro, le-highest, highest-at}
-use Rattle.terms.specs.declared.orders.{Side.the-variants.Buy, Side.the-variants.Sell, Order.Order}
+use Rattle.terms.specs.Orders.{Resting}
+use Rattle.terms.specs.declared.orders.{Side.the-variants.Buy, Side.the-variants.Sell}
 use Rattle.price.specs.Interest.{demand, supply, executable, difference, interest-mono}
 use Rattle.price.specs.Candidates.{candidates, limits, mostExecutable}
 use Rattle.price.specs.Chain.{kept, settled, preferred, demandExceeds, supplyExceeds, auctionPrice, price-some}
@@ -135,7 +136,7 @@ pinned : (m n : ℕ) → m ≤ n → n ≤ m → m ≡ n
 pinned m n h k = omega arith
 
 -- The candidates of a book, with demand and supply as the search finds them at each: the reference price and the limits of both sides, 0 for unlimited.
-module _ (reference : ℕ) (book : List Order) (demandAt supplyAt : ℕ → ℕ) (bids asks : List ℕ)
+module _ (reference : ℕ) (book : List Resting) (demandAt supplyAt : ℕ → ℕ) (bids asks : List ℕ)
     (same : (p : ℕ) → p ∈ candidates reference book → (demandAt p ≡ demand book p) × (supplyAt p ≡ supply book p))
     (bids-known : (p : ℕ) → p ∈ bids → (p ≡ 0) ⊎ (p ∈ limits book))
     (asks-known : (p : ℕ) → p ∈ asks → (p ≡ 0) ⊎ (p ∈ limits book))

@@ -3,15 +3,16 @@ use Prim.Native.Nat.{ℕ}
 use mathlib.Core.Path.{_≡_, refl}
 use mathlib.Core.List.{List, [], _∷_, map}
 use Rattle.terms.specs.Samples.{order, buy, sell, buyAny}
-use Rattle.terms.specs.declared.orders.{Side.the-variants.Buy, Side.the-variants.Sell, Validity.the-variants.AtOpening, Validity.the-variants.AtClose, Validity.the-variants.Day, Validity.the-variants.LaterDay, Auction.the-variants.Opening, Auction.the-variants.Closing, Limit.the-variants.At, Order.Order}
+use Rattle.terms.specs.Orders.{Resting}
+use Rattle.terms.specs.declared.orders.{Side.the-variants.Buy, Side.the-variants.Sell, Validity.the-variants.AtOpening, Validity.the-variants.AtClose, Validity.the-variants.Day, Validity.the-variants.LaterDay, Auction.the-variants.Opening, Auction.the-variants.Closing, Limit.the-variants.At}
 use Rattle.queue.specs.Part.{takingPart}
 use Rattle.queue.specs.Rank.{ranked}
 
-abbrev numbersOf : List Order → List ℕ
+abbrev numbersOf : List Resting → List ℕ
 numbersOf os = map (λ o. o .number) os
 
 -- one order of each validity
-abbrev four : List Order
+abbrev four : List Resting
 four = order 1 Buy AtOpening 5 (At 100) ∷ order 2 Buy AtClose 5 (At 100) ∷ order 3 Buy Day 5 (At 100) ∷ order 4 Buy LaterDay 5 (At 100) ∷ []
 
 -- the opening leaves at-the-close orders out; the closing leaves none out
@@ -24,7 +25,7 @@ unfolding takingPart
 at-the-closing = refl
 
 -- orders 9 and 8 stand at places that were freed and reused: number, not place, decides at one limit
-abbrev pub mixed : List Order
+abbrev pub mixed : List Resting
 mixed = buy 9 10 200 ∷ buy 2 20 200 ∷ sell 3 30 150 ∷ buyAny 8 40 ∷ sell 4 50 100 ∷ buy 5 60 300 ∷ []
 
 buys-ranked : numbersOf (ranked Buy mixed) ≡ 8 ∷ 5 ∷ 2 ∷ 9 ∷ []

@@ -13,8 +13,8 @@ use Rattle.lists.specs.Choice.{keep}
 use Rattle.lists.specs.Ranking.{rank, rank-elim, Agreeing, rank-map}
 use Rattle.terms.specs.Bounds.{places, maxPrice, maxNumber}
 use Rattle.terms.specs.Kinds.{isPrice, isMultiple}
-use Rattle.terms.specs.Orders.{sideNumber, validityNumber, limitFrom, isLegal}
-use Rattle.terms.specs.declared.orders.{Side.Side, Side.the-variants.Buy, Side.the-variants.Sell, Auction.Auction, Auction.the-variants.Opening, Auction.the-variants.Closing, Validity.Validity, Validity.the-variants.AtOpening, Validity.the-variants.AtClose, Validity.the-variants.Day, Validity.the-variants.LaterDay, Order.Order}
+use Rattle.terms.specs.Orders.{Resting, sideNumber, validityNumber, limitFrom, isLegal}
+use Rattle.terms.specs.declared.orders.{Side.Side, Side.the-variants.Buy, Side.the-variants.Sell, Auction.Auction, Auction.the-variants.Opening, Auction.the-variants.Closing, Validity.Validity, Validity.the-variants.AtOpening, Validity.the-variants.AtClose, Validity.the-variants.Day, Validity.the-variants.LaterDay}
 use Rattle.book.specs.declared.Book.{Book}
 use Rattle.places.specs.Places.{isTaken}
 use Rattle.book.specs.Columns.{sideFrom, validityFrom, orderAt}
@@ -28,7 +28,7 @@ use Rattle.queue.specs.Ranks.{limitRoom, rankOf, rankBound, placeOfRank,
 use Rattle.queue.specs.Keys.{rank-place, rank-ahead, rank-allows, rank-unlimited}
 
 -- the orders that rest at n places from one on, by place
-unfoldable restingFrom : Book → ℕ → ℕ → List Order
+unfoldable restingFrom : Book → ℕ → ℕ → List Resting
 restingFrom b place zero = []
 restingFrom b place (suc n) = restingAt b place ++ restingFrom b (suc place) n
 
@@ -120,10 +120,10 @@ module _ (step given : ℕ) (b : Book) (sound : SoundBook step given b) (enough 
     abbrev ranksAt : ℕ → ℕ → List ℕ
     ranksAt p n = ranksFrom s a (b .side) (b .validity) (b .limit) (b .number) p n
 
-    abbrev orderOfRank : ℕ → Order
+    abbrev orderOfRank : ℕ → Resting
     orderOfRank r = orderAt b (placeOfRank r)
 
-    abbrev part : Order → Bool
+    abbrev part : Resting → Bool
     part o = takesPart a (o .validity)
 
     -- what stands at a place takes part where its order does
@@ -200,4 +200,4 @@ module _ (step given : ℕ) (b : Book) (sound : SoundBook step given b) (enough 
     unfolding ranked takingPart
     ranked-by-ranks =
         rank-map orderOfRank leb (ahead s) (ranksAt 0 places) (from-agree 0 places (omega arith))
-        ∙ ap (rank (ahead s)) (from-orders 0 places (omega arith) ∙ ap (λ (os : List Order). keep (onSide s) (keep part os)) (resting-from b places))
+        ∙ ap (rank (ahead s)) (from-orders 0 places (omega arith) ∙ ap (λ (os : List Resting). keep (onSide s) (keep part os)) (resting-from b places))

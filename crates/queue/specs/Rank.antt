@@ -9,7 +9,8 @@ use Rattle.lists.specs.Tests.{tests, decided, and-both, and-intro, or-cases, or
 use Rattle.lists.specs.Sums.{_∈_, sum, counted}
 use Rattle.lists.specs.Choice.{keep, keep-elim, keep-intro, keep-sum}
 use Rattle.lists.specs.Ranking.{rank, Ranked, Comparable, rank-sum, rank-elim, rank-intro, rank-ranked, ranked-unique}
-use Rattle.terms.specs.declared.orders.{Side.Side, Side.the-variants.Buy, Side.the-variants.Sell, Limit.Limit, Limit.the-variants.Unlimited, Limit.the-variants.At, Order.Order}
+use Rattle.terms.specs.Orders.{Resting}
+use Rattle.terms.specs.declared.orders.{Side.Side, Side.the-variants.Buy, Side.the-variants.Sell, Limit.Limit, Limit.the-variants.Unlimited, Limit.the-variants.At}
 use Rattle.queue.specs.Sides.{sameSide}
 use Rattle.queue.specs.Distinct.{Distinct, distinct-keep}
 
@@ -26,17 +27,17 @@ betterLimit s (At p) Unlimited = false
 betterLimit s (At p) (At q) = betterPrice s p q
 
 -- .. then, where neither limit is better, the lower number
-abbrev pub earlier : Side → Order → Order → Bool
+abbrev pub earlier : Side → Resting → Resting → Bool
 earlier s a b = not (betterLimit s (b .limit) (a .limit)) && ltb (a .number) (b .number)
 
-abbrev pub ahead : Side → Order → Order → Bool
+abbrev pub ahead : Side → Resting → Resting → Bool
 ahead s a b = betterLimit s (a .limit) (b .limit) || earlier s a b
 
-abbrev pub onSide : Side → Order → Bool
+abbrev pub onSide : Side → Resting → Bool
 onSide s o = sameSide s (o .side)
 
 -- the ranked queue of a side, best first
-unfoldable pub ranked : Side → List Order → List Order
+unfoldable pub ranked : Side → List Resting → List Resting
 ranked s book = rank (ahead s) (keep (onSide s) book)
 
 -- Rank is a strict total order on orders with distinct numbers (B4).
@@ -77,21 +78,21 @@ betterLimit-trans s (At p) (At q) Unlimited h k = k
 betterLimit-trans s (At p) (At q) (At r) h k = betterPrice-trans s p q r h k
 
 -- the limit of one that is behind is not better
-pub ahead-limit : (s : Side) (a b : Order) → T (ahead s a b) → T (not (betterLimit s (b .limit) (a .limit)))
+pub ahead-limit : (s : Side) (a b : Resting) → T (ahead s a b) → T (not (betterLimit s (b .limit) (a .limit)))
 ahead-limit s a b h =
     ⊎-elim
     (λ k. not-T (betterLimit s (b .limit) (a .limit)) (λ l. betterLimit-irrefl s (a .limit) (betterLimit-trans s (a .limit) (b .limit) (a .limit) k l)))
     (λ k. and-both (not (betterLimit s (b .limit) (a .limit))) _ k .0)
     (or-cases (betterLimit s (a .limit) (b .limit)) (earlier s a b) h)
 
-pub ahead-irrefl : (s : Side) (a : Order) → T (ahead s a a) → ⊥
+pub ahead-irrefl : (s : Side) (a : Resting) → T (ahead s a a) → ⊥
 ahead-irrefl s a h =
     ⊎-elim
     (betterLimit-irrefl s (a .limit))
     (λ k. let l = and-both (not (betterLimit s (a .limit) (a .limit))) _ k .1 in omega tests)
     (or-cases (betterLimit s (a .limit) (a .limit)) (earlier s a a) h)
 
-pub ahead-total : (s : Side) (a b : Order) → a .number ≢ b .number → T (ahead s a b) ⊎ T (ahead s b a)
+pub ahead-total : (s : Side) (a b : Resting) → a .number ≢ b .number → T (ahead s a b) ⊎ T (ahead s b a)
 ahead-total s a b n =
     ⊎-elim
     (λ h. inl (or-left (betterLimit s (a .limit) (b .limit)) _ h))
@@ -104,7 +105,7 @@ ahead-total s a b n =
     (decided (betterLimit s (b .limit) (a .limit))))
     (decided (betterLimit s (a .limit) (b .limit)))
 
-pub ahead-trans : (s : Side) (a b c : Order) → T (ahead s a b) → T (ahead s b c) → T (ahead s a c)
+pub ahead-trans : (s : Side) (a b c : Resting) → T (ahead s a b) → T (ahead s b c) → T (ahead s a c)
 ahead-trans s a b c h k =
     ⊎-elim
     (λ ab. or-left (betterLimit s (a .limit) (c .limit)) _ (⊎-elim (λ ac. ac) (λ cb. absurd (T-not (betterLimit s (c .limit) (b .limit)) (ahead-limit s b c k) cb)) (betterLimit-or s (a .limit) (c .limit) (b .limit) ab)))
@@ -119,31 +120,31 @@ ahead-trans s a b c h k =
     (or-cases (betterLimit s (b .limit) (c .limit)) (earlier s b c) k))
     (or-cases (betterLimit s (a .limit) (b .limit)) (earlier s a b) h)
 
-distinct-comparable : (s : Side) (os : List Order) → Distinct os → Comparable (ahead s) os
+distinct-comparable : (s : Side) (os : List Resting) → Distinct os → Comparable (ahead s) os
 distinct-comparable s [] d = tt
 distinct-comparable s (o ∷ os) (others, d) = ((λ x m. ahead-total s o x (λ e. others x m (sym e))), distinct-comparable s os d)
 
 -- The ranked queue is in that order ..
-pub ranked-in-order : (s : Side) (book : List Order) → Distinct book → Ranked (ahead s) (ranked s book)
+pub ranked-in-order : (s : Side) (book : List Resting) → Distinct book → Ranked (ahead s) (ranked s book)
 unfolding ranked
 ranked-in-order s book d = rank-ranked (ahead s) (ahead-trans s) (keep (onSide s) book) (distinct-comparable s (keep (onSide s) book) (distinct-keep (onSide s) book d))
 
 -- .. and holds exactly the orders of the side ..
-pub ranked-elim : (s : Side) (book : List Order) {o : Order} → o ∈ ranked s book → (o ∈ book) × T (onSide s o)
+pub ranked-elim : (s : Side) (book : List Resting) {o : Resting} → o ∈ ranked s book → (o ∈ book) × T (onSide s o)
 unfolding ranked
 ranked-elim s book m = keep-elim (onSide s) book (rank-elim (ahead s) (keep (onSide s) book) m)
 
-pub ranked-intro : (s : Side) {book : List Order} {o : Order} → o ∈ book → T (onSide s o) → o ∈ ranked s book
+pub ranked-intro : (s : Side) {book : List Resting} {o : Resting} → o ∈ book → T (onSide s o) → o ∈ ranked s book
 unfolding ranked
 ranked-intro s m h = rank-intro (ahead s) (keep-intro (onSide s) m h)
 
 -- .. each as often as the book does
-pub ranked-sum : (s : Side) (book : List Order) (w : Order → ℕ) → sum w (ranked s book) ≡ sum (λ o. counted (onSide s o) (w o)) book
+pub ranked-sum : (s : Side) (book : List Resting) (w : Resting → ℕ) → sum w (ranked s book) ≡ sum (λ o. counted (onSide s o) (w o)) book
 unfolding ranked
 ranked-sum s book w = rank-sum (ahead s) w (keep (onSide s) book) ∙ keep-sum (onSide s) w book
 
 -- It doesn't depend on places: two books with the same orders have one ranked queue.
-pub ranked-same : (s : Side) (book other : List Order) → Distinct book → Distinct other → ((o : Order) → o ∈ book → o ∈ other) → ((o : Order) → o ∈ other → o ∈ book)
+pub ranked-same : (s : Side) (book other : List Resting) → Distinct book → Distinct other → ((o : Resting) → o ∈ book → o ∈ other) → ((o : Resting) → o ∈ other → o ∈ book)
     → ranked s book ≡ ranked s other
 ranked-same s book other d e to from =
     ranked-unique (ahead s) (ahead-trans s) (ahead-irrefl s) (ranked s book) (ranked s other) (ranked-in-order s book d) (ranked-in-order s other e)

@@ -8,7 +8,7 @@ use lib.Dec.{leb}
 use Rattle.lists.specs.Tests.{tests, and-both}
 use Rattle.lists.specs.Sums.{_∈_}
 use Rattle.terms.specs.Bounds.{places, minQuantity, maxQuantity}
-use Rattle.terms.specs.declared.orders.{Order.Order}
+use Rattle.terms.specs.Orders.{Resting}
 use Rattle.book.specs.declared.Book.{Book}
 use Rattle.places.specs.Places.{isTaken}
 use Rattle.book.specs.Columns.{orderAt}
@@ -19,7 +19,7 @@ use Rattle.queue.specs.Distinct.{Distinct, distinct-snoc}
 
 module _ (step given : ℕ) (b : Book) (sound : SoundBook step given b) where
   -- every resting order may rest
-  pub resting-sound : (o : Order) → o ∈ resting b → SoundOrder step given o
+  pub resting-sound : (o : Resting) → o ∈ resting b → SoundOrder step given o
   resting-sound o m = let s = resting-elim b places m in rw (s .is) (sound .each (s .place) (s .below) .rests (s .taken))
 
   -- their numbers are distinct
@@ -32,7 +32,7 @@ module _ (step given : ℕ) (b : Book) (sound : SoundBook step given b) where
       go true e d =
           distinct-snoc (restingTo b n) (orderAt b n) d
           (λ x m i. let s = resting-elim b n m in
-          let same : s .place ≡ n = sound .once (s .place) n (omega (arith, s .below)) (omega arith) (s .taken) e (ap (λ (o : Order). o .number) (sym (s .is)) ∙ i) in
+          let same : s .place ≡ n = sound .once (s .place) n (omega (arith, s .below)) (omega arith) (s .taken) e (ap (λ (o : Resting). o .number) (sym (s .is)) ∙ i) in
           omega (arith, s .below))
       go false e d = rw append-nil d
 
@@ -40,8 +40,8 @@ module _ (step given : ℕ) (b : Book) (sound : SoundBook step given b) where
   resting-distinct = distinct-to places (omega arith)
 
   -- each has something open, and no more than the greatest quantity
-  quantity-of : (o : Order) → o ∈ resting b → (0 < o .left) × (o .left ≤ maxQuantity)
+  quantity-of : (o : Resting) → o ∈ resting b → (0 < o .left) × (o .left ≤ maxQuantity)
   quantity-of o m = let (low, high) = and-both (leb minQuantity (o .left)) (leb (o .left) maxQuantity) (resting-sound o m .open-quantity) in (omega tests, omega tests)
 
-  pub resting-live : (o : Order) → o ∈ resting b → 0 < o .left
+  pub resting-live : (o : Resting) → o ∈ resting b → 0 < o .left
   resting-live o m = quantity-of o m .0

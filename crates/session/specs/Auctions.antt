@@ -3,8 +3,8 @@ use Prim.Native.Nat.{ℕ, zero, suc}
 use mathlib.Core.Bool.{true}
 use mathlib.Core.List.{List, []}
 use lib.ListN.{length}
-use Rattle.terms.specs.Orders.{auctionOf}
-use Rattle.terms.specs.declared.orders.{Auction.Auction, AuctionMade.AuctionMade, Order.Order}
+use Rattle.terms.specs.Orders.{Resting, auctionOf}
+use Rattle.terms.specs.declared.orders.{Auction.Auction, AuctionMade.AuctionMade}
 use Rattle.book.specs.Resting.{resting, changed}
 use Rattle.queue.specs.Part.{takingPart}
 use Rattle.trades.specs.declared.{Trade.Trade}
@@ -18,7 +18,7 @@ use Rattle.refusals.specs.Checks.{Check, firstHit}
 use Rattle.refusals.specs.Rows.{auctionRows, theoreticalRows}
 
 -- the orders taking part, the outcome at this moment, and its trades
-abbrev pub part : Session → Auction → List Order
+abbrev pub part : Session → Auction → List Resting
 part s a = takingPart a (resting (s .book))
 
 unfoldable pub outcomeOf : Session → Auction → Outcome
@@ -31,7 +31,7 @@ tradesNow s a = trades (outcomeOf s a) (part s a)
 abbrev pub noAnswer : AuctionAnswer
 noAnswer = record { outcome = 0; price = 0; quantity = 0; count = 0 }
 
-abbrev pub answerOf : Outcome → List Order → AuctionAnswer
+abbrev pub answerOf : Outcome → List Resting → AuctionAnswer
 answerOf o book = record { outcome = outcomeNumber o; price = priceAnswered o; quantity = quantityAnswered o; count = countAnswered o book }
 
 -- outcomes 1 and 2: the trades leave the book, the ended validities too, and the phase goes on
@@ -57,7 +57,7 @@ delayGiven s = record {
 }
 
 -- the session after an outcome; with outcome 1 the price becomes the reference price, with outcome 3 nothing changes
-abbrev pub sessionAfter : Session → Auction → List Order → Outcome → Session
+abbrev pub sessionAfter : Session → Auction → List Resting → Outcome → Session
 sessionAfter s a book (Traded price quantity) = closedOut s a (trades (Traded price quantity) book) price
 sessionAfter s a book NoTrade = closedOut s a [] (s .reference)
 sessionAfter s a book NonOpening = s

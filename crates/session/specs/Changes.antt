@@ -11,9 +11,9 @@ use lib.ListN.{getD, set}
 use Rattle.lists.specs.Tests.{test-holds}
 use Rattle.terms.specs.Bounds.{places, maxNumber}
 use Rattle.terms.specs.Kinds.{isPlace}
-use Rattle.terms.specs.Orders.{orderOf, isEntry}
+use Rattle.terms.specs.Orders.{Resting, orderOf, isEntry}
 use Rattle.terms.specs.Made.{entry-asks}
-use Rattle.terms.specs.declared.orders.{Order.Order, OrderMade.OrderMade, Entry.Entry}
+use Rattle.terms.specs.declared.orders.{OrderMade.OrderMade, Entry.Entry}
 use Rattle.terms.specs.declared.parameters.{Parameters.Parameters}
 use Rattle.places.specs.Places.{wordPlaces, lowestFree, countTaken, isFull, withBit, withoutBit, marked, unmarked}
 use Rattle.places.specs.Words.{lowest-free-room, full-none-free}
@@ -145,7 +145,7 @@ module _ (phase : Phase) (p : Parameters) (reference given : ℕ) (taken : List 
     unfolding orderEffect
     order-turned-down h = refused n _ h ∙ ap (λ (m : ℕ). effectOf m (orderDone (orderOf (given + 1) e) (given + 1) taken)) order-hit
 
-    pub order-done : n ≡ 0 → {o : Order} {word : ℕ} {values : Values} → OrderMade.Good o ≡ orderOf (given + 1) e
+    pub order-done : n ≡ 0 → {o : Resting} {word : ℕ} {values : Values} → OrderMade.Good o ≡ orderOf (given + 1) e
         → word ≡ withBit (place % wordPlaces) (getD taken (place / wordPlaces) 0) → values ≡ valuesOf o
         → Effect.Done (record { given = given + 1; place = place; word = word; values = values }) ≡ orderEffect phase p reference given taken e
     unfolding orderEffect

@@ -9,9 +9,9 @@ use borrow.Author.Tests.{ltb-false}
 use lib.Dec.{T}
 use lib.ListN.{length, drop, length-map}
 use Rattle.terms.specs.Bounds.{places}
-use Rattle.terms.specs.Orders.{isSide, isAuction, sideOf, auctionOf}
+use Rattle.terms.specs.Orders.{Resting, isSide, isAuction, sideOf, auctionOf}
 use Rattle.terms.specs.Made.{side-made, auction-made}
-use Rattle.terms.specs.declared.orders.{Side.Side, SideMade.SideMade, Auction.Auction, AuctionMade.AuctionMade, Order.Order}
+use Rattle.terms.specs.declared.orders.{Side.Side, SideMade.SideMade, Auction.Auction, AuctionMade.AuctionMade}
 use Rattle.book.specs.Columns.{orderAt}
 use Rattle.queue.specs.Ranks.{placeOfRank, along}
 use Rattle.queue.specs.Rank.{ranked}
@@ -60,4 +60,4 @@ module _ (s : Session) (side which : ℕ) (list : List ℕ) where
     queue-listed on a i j ranks e = rw (h, i, j, ← numbers, length-map ranks (λ r. orderAt (s .book) (placeOfRank r) .number))
       where
         numbers : along (s .book .number) ranks ≡ rankedNumbers s on a
-        numbers = sym (map-map (λ (o : Order). o .number) (λ r. orderAt (s .book) (placeOfRank r)) ranks) ∙ ap (map (λ (o : Order). o .number)) e
+        numbers = sym (map-map (λ (o : Resting). o .number) (λ r. orderAt (s .book) (placeOfRank r)) ranks) ∙ ap (map (λ (o : Resting). o .number)) e

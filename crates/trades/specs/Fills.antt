@@ -8,7 +8,8 @@ use lib.Dec.{T, eqb, eqb→eq}
 use lib.ListN.{length}
 use Rattle.lists.specs.Tests.{and-intro, passes}
 use Rattle.lists.specs.Sums.{_∈_, counted, counted-and, counted-le, sum, sum-mono, sum-same, sum-ones, sum-add}
-use Rattle.terms.specs.declared.orders.{Side.Side, Side.the-variants.Buy, Side.the-variants.Sell, Order.Order}
+use Rattle.terms.specs.Orders.{Resting}
+use Rattle.terms.specs.declared.orders.{Side.Side, Side.the-variants.Buy, Side.the-variants.Sell}
 use Rattle.queue.specs.Sides.{allows, sameSide}
 use Rattle.queue.specs.Distinct.{Distinct, distinct-one, distinct-sum}
 use Rattle.queue.specs.Rank.{onSide, ahead, ranked, ranked-in-order, ranked-elim, ranked-intro, ranked-sum}
@@ -19,33 +20,33 @@ use Rattle.trades.specs.Trades.{party, traded, volume, TradeList}
 use Rattle.trades.specs.Pairing.{amount, paired, paired-traded, paired-volume, paired-count, paired-parties, paired-positive}
 
 -- what the orders of a side get of a quantity
-unfoldable pub fills : Side → ℕ → List Order → List Fill
+unfoldable pub fills : Side → ℕ → List Resting → List Fill
 fills s quantity book = fill quantity (ranked s book)
 
-unfoldable pub tradesOf : ℕ → List Order → List Trade
+unfoldable pub tradesOf : ℕ → List Resting → List Trade
 tradesOf quantity book = paired (fills Buy quantity book) (fills Sell quantity book)
 
 -- of nothing there are no trades
-pub trades-none : (book : List Order) → tradesOf 0 book ≡ []
+pub trades-none : (book : List Resting) → tradesOf 0 book ≡ []
 unfolding tradesOf fills
 trades-none book = rw (fill-zero (ranked Buy book), fill-zero (ranked Sell book))
 
 -- what the orders of side s that pass the test have open
-abbrev pub leftOf : Side → (Order → Bool) → List Order → ℕ
+abbrev pub leftOf : Side → (Resting → Bool) → List Resting → ℕ
 leftOf s f book = sum (λ o. counted (onSide s o && f o) (o .left)) book
 
 -- .. in the ranked queue
-pub queue-left : (s : Side) (f : Order → Bool) (book : List Order) → sum (λ o. counted (f o) (o .left)) (ranked s book) ≡ leftOf s f book
+pub queue-left : (s : Side) (f : Resting → Bool) (book : List Resting) → sum (λ o. counted (f o) (o .left)) (ranked s book) ≡ leftOf s f book
 queue-left s f book =
     ranked-sum s book (λ o. counted (f o) (o .left))
     ∙ sum-same (λ o. counted (onSide s o) (counted (f o) (o .left))) (λ o. counted (onSide s o && f o) (o .left)) book (λ o m. sym (counted-and (onSide s o) (f o) (o .left)))
 
 -- those whose limits allow p are a front part of the ranked queue
-pub allows-front : (s : Side) (p : ℕ) (book : List Order) → Distinct book → FrontPart (λ o. allows s p (o .limit)) (ranked s book)
+pub allows-front : (s : Side) (p : ℕ) (book : List Resting) → Distinct book → FrontPart (λ o. allows s p (o .limit)) (ranked s book)
 allows-front s p book d = ranked-front s (λ o. allows s p (o .limit)) (allows-ahead s p) (ranked s book) (ranked-in-order s book d)
 
 -- The fills of a quantity that both sides have at the price p.
-module _ (p quantity : ℕ) (book : List Order) (d : Distinct book) (enough : (s : Side) → quantity ≤ interest s p book) where
+module _ (p quantity : ℕ) (book : List Resting) (d : Distinct book) (enough : (s : Side) → quantity ≤ interest s p book) where
   fills-known : (s : Side) (x : Fill) → x ∈ fills s quantity book → (x .order ∈ book) × T (onSide s (x .order))
   unfolding fills
   fills-known s x m = fill-all (λ x. (x .order ∈ book) × T (onSide s (x .order))) quantity (ranked s book) (λ o n k. ranked-elim s book k) x m
@@ -81,7 +82,7 @@ module _ (p quantity : ℕ) (book : List Order) (d : Distinct book) (enough : (s
 
   -- a number that side s of the book has at p
   abbrev Known : Side → ℕ → Type 0
-  Known s n = (o : Order) × (o ∈ book) × T (accepts s p o) × (n ≡ o .number)
+  Known s n = (o : Resting) × (o ∈ book) × T (accepts s p o) × (n ≡ o .number)
 
   known : (s : Side) (x : Fill) → x ∈ fills s quantity book → Known s (x .order .number)
   known s x m = let (listed, same) = fills-known s x m in (x .order, listed, and-intro (onSide s (x .order)) _ same (fills-accept s x m), refl)
@@ -92,7 +93,7 @@ module _ (p quantity : ℕ) (book : List Order) (d : Distinct book) (enough : (s
   trades-known Sell t m = paired-parties (Known Buy) (Known Sell) (fills Buy quantity book) (fills Sell quantity book) (known Buy) (known Sell) t m .1
 
   -- no order is filled beyond what it has open
-  filled-le : (o : Order) → o ∈ book → (s : Side) → filledBy (hasNumber (o .number)) (fills s quantity book) ≤ o .left
+  filled-le : (o : Resting) → o ∈ book → (s : Side) → filledBy (hasNumber (o .number)) (fills s quantity book) ≤ o .left
   unfolding fills
   filled-le o m s = omega (
     arith,
@@ -110,7 +111,7 @@ module _ (p quantity : ℕ) (book : List Order) (d : Distinct book) (enough : (s
   }
 
   -- if an order gets anything, every better ranked order of its side is filled
-  pub trades-in-order : (s : Side) (a b : Order) → a ∈ book → b ∈ book → T (onSide s a) → T (onSide s b) → T (ahead s a b) → 0 < traded s (b .number) (tradesOf quantity book)
+  pub trades-in-order : (s : Side) (a b : Resting) → a ∈ book → b ∈ book → T (onSide s a) → T (onSide s b) → T (ahead s a b) → 0 < traded s (b .number) (tradesOf quantity book)
       → traded s (a .number) (tradesOf quantity book) ≡ a .left
   unfolding fills
   trades-in-order s a b ma mb sa sb h k = omega (
@@ -123,7 +124,7 @@ module _ (p quantity : ℕ) (book : List Order) (d : Distinct book) (enough : (s
   )
 
   -- no trade is of nothing, where each order has something open
-  pub trades-positive : ((o : Order) → o ∈ book → 0 < o .left) → (t : Trade) → t ∈ tradesOf quantity book → 0 < t .quantity
+  pub trades-positive : ((o : Resting) → o ∈ book → 0 < o .left) → (t : Trade) → t ∈ tradesOf quantity book → 0 < t .quantity
   unfolding tradesOf fills
   trades-positive live t m = paired-positive (fills Buy quantity book) (fills Sell quantity book) (positive Buy) (positive Sell) t m
     where
@@ -131,13 +132,13 @@ module _ (p quantity : ℕ) (book : List Order) (d : Distinct book) (enough : (s
       positive s x n = fill-all (λ x. 0 < x .quantity) quantity (ranked s book) (λ o k i. omega (arith, live o (ranked-elim s book i .0))) x n
 
   -- what the orders that pass the test trade on a side, added up over the book, is what they are filled with
-  traded-sum : (s : Side) (f : Order → Bool) → sum (λ o. counted (f o) (traded s (o .number) (tradesOf quantity book))) book ≡ filledBy f (fills s quantity book)
+  traded-sum : (s : Side) (f : Resting → Bool) → sum (λ o. counted (f o) (traded s (o .number) (tradesOf quantity book))) book ≡ filledBy f (fills s quantity book)
   traded-sum s f =
       sum-same (λ o. counted (f o) (traded s (o .number) (tradesOf quantity book))) (λ o. counted (f o) (filledBy (hasNumber (o .number)) (fills s quantity book))) book
       (λ o m. ap (counted (f o)) (trades-filled s (o .number)))
       ∙ filled-by-number f book d (fills s quantity book) (λ x m. fills-known s x m .0)
 
-  filled-side : (s : Side) (f : Order → Bool) → filledBy (λ o. onSide s o && f o) (fills s quantity book) ≡ filledBy f (fills s quantity book)
+  filled-side : (s : Side) (f : Resting → Bool) → filledBy (λ o. onSide s o && f o) (fills s quantity book) ≡ filledBy f (fills s quantity book)
   filled-side s f =
       sum-same (λ x. counted (onSide s (x .order) && f (x .order)) (x .quantity)) (λ x. counted (f (x .order)) (x .quantity)) (fills s quantity book)
       (λ x m. rw (passes (onSide s (x .order)) (fills-known s x m .1)))
@@ -150,13 +151,13 @@ module _ (p quantity : ℕ) (book : List Order) (d : Distinct book) (enough : (s
       ∙ fills-amount s
 
   -- A front part of a side's queue trades the quantity, or all that it has open.
-  pub traded-front : (s : Side) (f : Order → Bool) → FrontPart f (ranked s book)
+  pub traded-front : (s : Side) (f : Resting → Bool) → FrontPart f (ranked s book)
       → sum (λ o. counted (onSide s o && f o) (traded s (o .number) (tradesOf quantity book))) book ≡ min quantity (leftOf s f book)
   unfolding fills
   traded-front s f front = traded-sum s (λ o. onSide s o && f o) ∙ filled-side s f ∙ fill-front f quantity (ranked s book) front ∙ rw (queue-left s f book)
 
 -- there are fewer trades than orders
-pub trades-count : (quantity : ℕ) (book : List Order) → length (tradesOf quantity book) ≤ length book - 1
+pub trades-count : (quantity : ℕ) (book : List Resting) → length (tradesOf quantity book) ≤ length book - 1
 unfolding tradesOf fills
 trades-count quantity book = omega (
   arith,

@@ -8,7 +8,8 @@ use native.Mathlib.Omega.{arith}
 use lib.Dec.{T, eqb, eqb-refl}
 use Rattle.lists.specs.Tests.{and-both, and-intro}
 use Rattle.lists.specs.Sums.{_∈_, counted, counted-mono, sum, sum-mono, le-sum, sum-zero, sum-swap}
-use Rattle.terms.specs.declared.orders.{Side.Side, Side.the-variants.Buy, Side.the-variants.Sell, Order.Order}
+use Rattle.terms.specs.Orders.{Resting}
+use Rattle.terms.specs.declared.orders.{Side.Side, Side.the-variants.Buy, Side.the-variants.Sell}
 use Rattle.queue.specs.Sides.{sameSide-eq}
 use Rattle.queue.specs.Rank.{onSide}
 use Rattle.price.specs.Interest.{accepts, interest, executable}
@@ -32,13 +33,13 @@ volume trades = sum (λ t. t .quantity) trades
 
 -- A trade list at the price p: each trade names a buy and a sell that take part and accept p, with a quantity;
 -- over the whole list no order is named for more than its open quantity.
-pub record TradeList (p : ℕ) (book : List Order) (trades : List Trade) : Type 0 where
-  pub parties : (s : Side) (t : Trade) → t ∈ trades → (o : Order) × (o ∈ book) × T (accepts s p o) × (party s t ≡ o .number)
-  pub fits : (o : Order) → o ∈ book → traded (o .side) (o .number) trades ≤ o .left
+pub record TradeList (p : ℕ) (book : List Resting) (trades : List Trade) : Type 0 where
+  pub parties : (s : Side) (t : Trade) → t ∈ trades → (o : Resting) × (o ∈ book) × T (accepts s p o) × (party s t ≡ o .number)
+  pub fits : (o : Resting) → o ∈ book → traded (o .side) (o .number) trades ≤ o .left
 
 -- Count each trade at the order that it names, then order by order.
-module _ (p : ℕ) (book : List Order) (trades : List Trade) (possible : TradeList p book trades) where
-  row : (s : Side) (b : Bool) (o : Order) → (T b → traded s (o .number) trades ≤ o .left) → sum (λ t. counted (b && eqb (party s t) (o .number)) (t .quantity)) trades ≤ counted b (o .left)
+module _ (p : ℕ) (book : List Resting) (trades : List Trade) (possible : TradeList p book trades) where
+  row : (s : Side) (b : Bool) (o : Resting) → (T b → traded s (o .number) trades ≤ o .left) → sum (λ t. counted (b && eqb (party s t) (o .number)) (t .quantity)) trades ≤ counted b (o .left)
   unfolding traded
   row s true o h = h tt
   row s false o h = omega (arith, sum-zero trades)
@@ -47,7 +48,7 @@ module _ (p : ℕ) (book : List Order) (trades : List Trade) (possible : TradeLi
   unfolding interest
   volume-le-interest s = omega (arith, each-named, sum-swap (λ t o. share t o) trades book, each-row)
     where
-      share : Trade → Order → ℕ
+      share : Trade → Resting → ℕ
       share t o = counted (accepts s p o && eqb (party s t) (o .number)) (t .quantity)
 
       each-named : volume trades ≤ sum (λ t. sum (λ o. share t o) book) trades
@@ -62,5 +63,5 @@ module _ (p : ℕ) (book : List Order) (trades : List Trade) (possible : TradeLi
   volume-le-executable = le-min (volume-le-interest Buy) (volume-le-interest Sell)
 
 -- No trade list at any price moves more than the highest executable quantity.
-pub volume-le-most : (reference p : ℕ) (book : List Order) (trades : List Trade) → TradeList p book trades → volume trades ≤ mostExecutable reference book
+pub volume-le-most : (reference p : ℕ) (book : List Resting) (trades : List Trade) → TradeList p book trades → volume trades ≤ mostExecutable reference book
 volume-le-most reference p book trades h = omega (arith, volume-le-executable p book trades h, candidates-suffice reference book p)
