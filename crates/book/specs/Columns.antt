@@ -1,21 +1,11 @@
 -- Columns: how an order stands at a place, and what storing and clearing change.
 use Prim.Native.Nat.{ℕ}
-use mathlib.Core.Bool.{cond}
-use lib.Dec.{eqb}
 use mathlib.Core.List.{List}
 use lib.ListN.{getD, set, replicate}
 use Rattle.terms.specs.Bounds.{places}
-use Rattle.terms.specs.Orders.{Resting, sideNumber, validityNumber, limitNumber, limitFrom}
-use Rattle.terms.specs.declared.orders.{Side.Side, Side.the-variants.Buy, Side.the-variants.Sell, Validity.Validity, Validity.the-variants.AtOpening, Validity.the-variants.AtClose, Validity.the-variants.Day, Validity.the-variants.LaterDay}
+use Rattle.terms.specs.Orders.{Resting, sideNumber, sideFrom, validityNumber, validityFrom, limitNumber, limitFrom}
 use Rattle.book.specs.declared.{Book.Book, Values.Values}
 use Rattle.places.specs.Places.{marked, unmarked}
-
--- sides, validities and limits stand under their numbers of 01
-abbrev pub sideFrom : ℕ → Side
-sideFrom x = cond (eqb x 1) Buy Sell
-
-abbrev pub validityFrom : ℕ → Validity
-validityFrom x = cond (eqb x 1) AtOpening (cond (eqb x 2) AtClose (cond (eqb x 3) Day LaterDay))
 
 -- what the columns hold at a place
 abbrev pub valuesAt : Book → ℕ → Values
@@ -28,7 +18,7 @@ valuesAt b place = record {
   limit = getD (b .limit) place 0;
 }
 
--- an order as the columns hold it, and back
+-- an order as the columns hold it, under the numbers of 01, and back
 abbrev pub valuesOf : Resting → Values
 valuesOf o = record {
   number = o .number;

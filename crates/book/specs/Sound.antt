@@ -40,7 +40,7 @@ pub record SoundBook (step given : ℕ) (b : Book) : Type 0 where
 
 pub legal-limit : (step : ℕ) (w : Limit) → T (isLegal step w) → T (isLimit w)
 legal-limit step Unlimited h = tt
-legal-limit step (At p) h = and-both (isPrice p) (isMultiple step p) h .0
+legal-limit step (At p) h = and-both (isPrice (p .0)) (isMultiple step (p .0)) h .0
 
 -- every place of the empty book is free
 pub empty-sound : (step given : ℕ) → SoundBook step given emptyBook

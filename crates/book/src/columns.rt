@@ -4,7 +4,6 @@ use crate::Values;
 use places::WORD_PLACES;
 use places::WORDS;
 use places::bit_of;
-use terms::Limit;
 use terms::Order;
 use terms::Place;
 use terms::Side;
@@ -12,10 +11,11 @@ use terms::Validity;
 ghost use mathlib.Core.Path.{_≡_};
 ghost use Prim.Native.Nat.{_<_, _≤_, _+_};
 ghost use lib.ListN.{set};
-ghost use Rattle.book.specs.Columns.{sideFrom, validityFrom, valuesOf, orderAt, emptyBook};
+ghost use Rattle.book.specs.Columns.{valuesOf, emptyBook};
 ghost use Rattle.book.specs.Groups.{hasNumber};
 ghost use Rattle.book.specs.Resting.{placeIn};
 ghost use Rattle.terms.specs.Bounds.{places};
+ghost use Rattle.terms.specs.Orders.{sideFrom, validityFrom, restingAs};
 
 // Sides and validities stand under their numbers of 01.
 fn side_from(x: u8) -> Side
@@ -39,19 +39,19 @@ fn validity_from(x: u8) -> Validity
     }
 }
 
-// An order as the columns hold it.
-pub fn values_of(o: Order) -> Values
-    ensures { λ r. ⌜ r ≡ valuesOf o ⌝ }
+// An order under its number, as the columns hold it.
+pub fn values_of(number: u32, o: Order) -> Values
+    ensures { λ r. ⌜ r ≡ valuesOf (restingAs number o) ⌝ }
 {
     let side = o.side;
     let validity = o.validity;
     let limit = o.limit;
     Values {
-        number: o.number,
-        member: o.member,
+        number,
+        member: o.member.number(),
         side: side.number(),
         validity: validity.number(),
-        left: o.left,
+        left: o.quantity.number(),
         limit: limit.number(),
     }
 }
@@ -90,23 +90,6 @@ impl Book {
             validity: [0u8; Place::COUNT],
             left: [0u32; Place::COUNT],
             limit: [0u32; Place::COUNT],
-        }
-    }
-
-    pub fn order_at(self, place: usize) -> Order
-        requires { ⌜ place < places ⌝ }
-        ensures { λ r. ⌜ r ≡ orderAt self place ⌝ }
-    {
-        let side = side_from(self.side[place]);
-        let validity = validity_from(self.validity[place]);
-        let limit = Limit::from(self.limit[place]);
-        Order {
-            number: self.number[place],
-            member: self.member[place],
-            side,
-            validity,
-            left: self.left[place],
-            limit,
         }
     }
 }
