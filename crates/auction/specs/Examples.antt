@@ -6,8 +6,8 @@ use mathlib.Core.Path.{_≡_, refl}
 use mathlib.Core.List.{List, [], _∷_}
 use Rattle.lists.specs.Sums.{apart}
 use Rattle.terms.specs.Samples.{order, buy, sell, buyAny}
-use Rattle.terms.specs.Orders.{Resting}
-use Rattle.terms.specs.declared.orders.{Side.the-variants.Buy, Validity.the-variants.AtOpening, Validity.the-variants.AtClose, Validity.the-variants.Day, Validity.the-variants.LaterDay, Auction.Auction, Auction.the-variants.Opening, Auction.the-variants.Closing, Limit.the-variants.At}
+use Rattle.terms.specs.Orders.{Resting, atPrice}
+use Rattle.terms.specs.declared.orders.{Side.the-variants.Buy, Validity.the-variants.AtOpening, Validity.the-variants.AtClose, Validity.the-variants.Day, Validity.the-variants.LaterDay, Auction.Auction, Auction.the-variants.Opening, Auction.the-variants.Closing}
 use Rattle.queue.specs.Rank.{ranked}
 use Rattle.price.specs.Interest.{interest}
 use Rattle.price.specs.Candidates.{mostExecutable}
@@ -83,18 +83,18 @@ unfolding computing
 gone = refl
 
 -- after opening validity 1 goes; after closing only validity 4 stays
-opening-ends : restOf Opening [] (order 1 Buy AtOpening 5 (At 100)) ≡ none
+opening-ends : restOf Opening [] (order 1 Buy AtOpening 5 (atPrice 100)) ≡ none
 unfolding computing
 opening-ends = refl
 
-opening-keeps : restOf Opening [] (order 1 Buy AtClose 5 (At 100)) ≡ some (order 1 Buy AtClose 5 (At 100))
+opening-keeps : restOf Opening [] (order 1 Buy AtClose 5 (atPrice 100)) ≡ some (order 1 Buy AtClose 5 (atPrice 100))
 unfolding computing
 opening-keeps = refl
 
-closing-ends : restOf Closing [] (order 1 Buy Day 5 (At 100)) ≡ none
+closing-ends : restOf Closing [] (order 1 Buy Day 5 (atPrice 100)) ≡ none
 unfolding computing
 closing-ends = refl
 
-closing-keeps : restOf Closing [] (order 1 Buy LaterDay 5 (At 100)) ≡ some (order 1 Buy LaterDay 5 (At 100))
+closing-keeps : restOf Closing [] (order 1 Buy LaterDay 5 (atPrice 100)) ≡ some (order 1 Buy LaterDay 5 (atPrice 100))
 unfolding computing
 closing-keeps = refl

@@ -13,7 +13,7 @@ use Rattle.lists.specs.Tests.{tests, and-both}
 use Rattle.lists.specs.Sums.{_∈_}
 use Rattle.terms.specs.Bounds.{maxPrice, maxNumber}
 use Rattle.terms.specs.Kinds.{isPrice, isMultiple, isReference}
-use Rattle.terms.specs.Orders.{Resting, limitNumber, limitFrom}
+use Rattle.terms.specs.Orders.{Resting, limitNumber, limitFrom, atPrice}
 use Rattle.terms.specs.declared.orders.{Side.Side, Side.the-variants.Buy, Side.the-variants.Sell, Auction.Auction, Limit.Limit, Limit.the-variants.Unlimited, Limit.the-variants.At}
 use Rattle.book.specs.declared.Book.{Book}
 use Rattle.book.specs.Columns.{orderAt}
@@ -50,18 +50,18 @@ number-from zero = refl
 number-from (suc l) = refl
 
 -- the limits of a book are those of its orders ..
-limits-elim : (book : List Resting) {p : ℕ} → p ∈ limits book → (o : Resting) × (o ∈ book) × (o .limit ≡ At p)
+limits-elim : (book : List Resting) {p : ℕ} → p ∈ limits book → (o : Resting) × (o ∈ book) × (o .limit ≡ atPrice p)
 limits-elim [] m = absurd (List·Memᴰ·not-nil m)
 limits-elim (o ∷ os) {p} m = go (o .limit) refl (limits-elim os) m
   where
-    go : (w : Limit) → o .limit ≡ w → (p ∈ limits os → (x : Resting) × (x ∈ os) × (x .limit ≡ At p)) → p ∈ addLimit w (limits os) → (x : Resting) × (x ∈ (o ∷ os)) × (x .limit ≡ At p)
+    go : (w : Limit) → o .limit ≡ w → (p ∈ limits os → (x : Resting) × (x ∈ os) × (x .limit ≡ atPrice p)) → p ∈ addLimit w (limits os) → (x : Resting) × (x ∈ (o ∷ os)) × (x .limit ≡ atPrice p)
     go Unlimited e below m = let (x, n, i) = below m in (x, List·Memᴰ·tail n, i)
-    go (At l) e below (List·Memᴰ·head i) = (o, List·Memᴰ·head refl, e ∙ ap At (sym i))
+    go (At l) e below (List·Memᴰ·head i) = (o, List·Memᴰ·head refl, e ∙ ap atPrice (sym i))
     go (At l) e below (List·Memᴰ·tail m) = let (x, n, i) = below m in (x, List·Memᴰ·tail n, i)
 
-limits-intro : (book : List Resting) {o : Resting} {p : ℕ} → o ∈ book → o .limit ≡ At p → p ∈ limits book
+limits-intro : (book : List Resting) {o : Resting} {p : ℕ} → o ∈ book → o .limit ≡ atPrice p → p ∈ limits book
 limits-intro [] m e = absurd (List·Memᴰ·not-nil m)
-limits-intro (x ∷ xs) {o} {p} (List·Memᴰ·head i) e = let l : x .limit ≡ At p = ap (λ (y : Resting). y .limit) (sym i) ∙ e in rw l (List·Memᴰ·head refl)
+limits-intro (x ∷ xs) {o} {p} (List·Memᴰ·head i) e = let l : x .limit ≡ atPrice p = ap (λ (y : Resting). y .limit) (sym i) ∙ e in rw l (List·Memᴰ·head refl)
 limits-intro (x ∷ xs) {o} {p} (List·Memᴰ·tail m) e = later (x .limit) (limits-intro xs m e)
   where
     later : (w : Limit) → p ∈ limits xs → p ∈ addLimit w (limits xs)
@@ -74,7 +74,7 @@ number-listed book {o} m p i = go (o .limit) refl i
   where
     go : (w : Limit) → o .limit ≡ w → limitNumber w ≡ p → (p ≡ 0) ⊎ (p ∈ limits book)
     go Unlimited e i = inl (sym i)
-    go (At l) e i = inr (limits-intro book m (e ∙ ap At i))
+    go (At l) e i = inr (limits-intro book m (e ∙ ap atPrice i))
 
 -- a price has room in a rank
 price-room : (step p : ℕ) → T (isReference step p) → (0 < p) × (p < limitRoom)
@@ -138,13 +138,13 @@ module _ (step given : ℕ) (b : Book) (sound : SoundBook step given b) (few : g
         let (o, n, i) = Memᴰ·of-map (λ (o : Resting). limitNumber (o .limit)) (ranked s part) (rw entries-on at m) in
         number-listed part (ranked-elim s part n .0) p i
 
-    entered : (p : ℕ) (o : Resting) → o ∈ part → T (onSide s o) → o .limit ≡ At p → p ∈ entries
+    entered : (p : ℕ) (o : Resting) → o ∈ part → T (onSide s o) → o .limit ≡ atPrice p → p ∈ entries
     entered p o m on e = rw entries-on (rw e at (Memᴰ·map (λ (x : Resting). limitNumber (x .limit)) (ranked-intro s m on)))
 
   all-entered : (p : ℕ) → p ∈ limits part → (p ∈ entries Buy) ⊎ (p ∈ entries Sell)
   all-entered p m = let (o, n, e) = limits-elim part m in go o n e (o .side) refl
     where
-      go : (o : Resting) → o ∈ part → o .limit ≡ At p → (t : Side) → o .side ≡ t → (p ∈ entries Buy) ⊎ (p ∈ entries Sell)
+      go : (o : Resting) → o ∈ part → o .limit ≡ atPrice p → (t : Side) → o .side ≡ t → (p ∈ entries Buy) ⊎ (p ∈ entries Sell)
       go o n e Buy i = inl (entered Buy p o n (rw i tt) e)
       go o n e Sell i = inr (entered Sell p o n (rw i tt) e)
 

@@ -10,7 +10,7 @@ use lib.ListN.{length, getD, set, length-set}
 use lib.Seq.{getD-set-same, getD-set-other}
 use Rattle.terms.specs.Bounds.{places}
 use Rattle.terms.specs.Kinds.{isPrice}
-use Rattle.terms.specs.Orders.{Resting, sideFrom, validityFrom, sideNumber, validityNumber, limitNumber, limitFrom, isLimit}
+use Rattle.terms.specs.Orders.{Resting, atPrice, sideFrom, validityFrom, sideNumber, validityNumber, limitNumber, limitFrom, isLimit}
 use Rattle.terms.specs.declared.orders.{Side.Side, Side.the-variants.Buy, Side.the-variants.Sell, Validity.Validity, Validity.the-variants.AtOpening, Validity.the-variants.AtClose, Validity.the-variants.Day, Validity.the-variants.LaterDay, Limit.Limit, Limit.the-variants.Unlimited, Limit.the-variants.At}
 use Rattle.book.specs.declared.Book.{Book}
 use Rattle.places.specs.Places.{isTaken, marked, unmarked}
@@ -42,7 +42,7 @@ validity-back LaterDay = refl
 limit-back : (w : Limit) → T (isLimit w) → limitFrom (limitNumber w) ≡ w
 limit-back Unlimited h = refl
 limit-back (At p) h = price-back (p .0) h where
-  price-back : (n : ℕ) → T (isPrice n) → limitFrom n ≡ At (record { 0 = n })
+  price-back : (n : ℕ) → T (isPrice n) → limitFrom n ≡ atPrice n
   price-back zero h = absurd h
   price-back (suc n) h = refl
 

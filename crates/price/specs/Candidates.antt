@@ -17,7 +17,7 @@ use Rattle.price.specs.Interest.{accepts, interest, executable, tighter,
 -- the limits of the orders taking part ..
 abbrev pub addLimit : Limit → List ℕ → List ℕ
 addLimit Unlimited cs = cs
-addLimit (At l) cs = l ∷ cs
+addLimit (At l) cs = l .0 ∷ cs
 
 abbrev pub limits : List Resting → List ℕ
 limits [] = []
@@ -34,7 +34,7 @@ mostExecutable reference book = highest (executable book) (candidates reference 
 -- A wall of side s at p: a limit that allows p, such that no price that it allows makes f smaller than at p.
 abbrev Listed : List ℕ → Limit → Type 0
 Listed cs Unlimited = Unit {0}
-Listed cs (At l) = l ∈ cs
+Listed cs (At l) = l .0 ∈ cs
 
 listed-here : (w : Limit) (cs : List ℕ) → Listed (addLimit w cs) w
 listed-here Unlimited cs = tt
@@ -79,8 +79,8 @@ candidate-as-good reference book p = go (wall Buy p book) (wall Sell p book)
   where
     go : Wall Buy p (limits book) (λ q. interest Buy q book) → Wall Sell p (limits book) (λ q. interest Sell q book)
         → (c : ℕ) × (c ∈ candidates reference book) × (executable book p ≤ executable book c)
-    go (At b, l, k, h) y = (b, List·Memᴰ·tail l, omega (arith, h b (noWorse-refl Buy b), interest-mono Sell b p book k))
-    go (Unlimited, l, k, h) (At a, l', k', h') = (a, List·Memᴰ·tail l', omega (arith, h a tt, h' a (noWorse-refl Sell a)))
+    go (At b, l, k, h) y = (b .0, List·Memᴰ·tail l, omega (arith, h (b .0) (noWorse-refl Buy (b .0)), interest-mono Sell (b .0) p book k))
+    go (Unlimited, l, k, h) (At a, l', k', h') = (a .0, List·Memᴰ·tail l', omega (arith, h (a .0) tt, h' (a .0) (noWorse-refl Sell (a .0))))
     go (Unlimited, l, k, h) (Unlimited, l', k', h') = (reference, List·Memᴰ·head refl, omega (arith, h reference tt, h' reference tt))
 
 -- Candidates suffice: no price has a higher executable quantity than the best candidate (B5).

@@ -42,13 +42,13 @@ executable-within Sell p book = omega arith
 -- a worse price is allowed by fewer limits
 allows-mono : (s : Side) (p q : ℕ) (w : Limit) → T (noWorse s p q) → T (allows s q w) → T (allows s p w)
 allows-mono s p q Unlimited h k = tt
-allows-mono s p q (At l) h k = noWorse-trans s p q l h k
+allows-mono s p q (At l) h k = noWorse-trans s p q (l .0) h k
 
 -- of two limits of a side one is the tighter
 pub tighter : (s : Side) (v w : Limit) → ((q : ℕ) → T (allows s q v) → T (allows s q w)) ⊎ ((q : ℕ) → T (allows s q w) → T (allows s q v))
 tighter s Unlimited w = inr (λ q h. tt)
 tighter s (At v) Unlimited = inl (λ q h. tt)
-tighter s (At v) (At w) = ⊎-map (λ h q k. noWorse-trans s q v w k h) (λ h q k. noWorse-trans s q w v k h) (noWorse-total s v w)
+tighter s (At v) (At w) = ⊎-map (λ h q k. noWorse-trans s q (v .0) (w .0) k h) (λ h q k. noWorse-trans s q (w .0) (v .0) k h) (noWorse-total s (v .0) (w .0))
 
 -- a limit that is not worse allows what the other does
 allows-better : (s : Side) (p : ℕ) (v w : Limit) → T (not (betterLimit s w v)) → T (allows s p w) → T (allows s p v)

@@ -7,11 +7,12 @@ use lib.Dec.{T}
 use Rattle.lists.specs.Sums.{_∈_}
 use Rattle.terms.specs.Kinds.{isReference}
 use Rattle.terms.specs.Orders.{Resting, isLegal}
+use Rattle.terms.specs.declared.kinds.{Price.Price}
 use Rattle.terms.specs.declared.orders.{Limit.Limit, Limit.the-variants.Unlimited, Limit.the-variants.At}
 use Rattle.price.specs.Candidates.{addLimit, limits, candidates}
 use Rattle.price.specs.Chain.{auctionPrice, price-candidate}
 
-limits-all : (P : ℕ → Type 0) (ask : Limit → Type 0) → ((p : ℕ) → ask (At p) → P p) → (book : List Resting) → ((o : Resting) → o ∈ book → ask (o .limit)) → (p : ℕ) → p ∈ limits book → P p
+limits-all : (P : ℕ → Type 0) (ask : Limit → Type 0) → ((p : Price) → ask (At p) → P (p .0)) → (book : List Resting) → ((o : Resting) → o ∈ book → ask (o .limit)) → (p : ℕ) → p ∈ limits book → P p
 limits-all P ask told [] h p m = absurd (List·Memᴰ·not-nil m)
 limits-all P ask told (o ∷ os) h p m = go (o .limit) (h o (List·Memᴰ·head refl)) (limits-all P ask told os (λ x n. h x (List·Memᴰ·tail n)) p) m
   where

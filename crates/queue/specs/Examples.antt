@@ -3,8 +3,8 @@ use Prim.Native.Nat.{ℕ}
 use mathlib.Core.Path.{_≡_, refl}
 use mathlib.Core.List.{List, [], _∷_, map}
 use Rattle.terms.specs.Samples.{order, buy, sell, buyAny}
-use Rattle.terms.specs.Orders.{Resting}
-use Rattle.terms.specs.declared.orders.{Side.the-variants.Buy, Side.the-variants.Sell, Validity.the-variants.AtOpening, Validity.the-variants.AtClose, Validity.the-variants.Day, Validity.the-variants.LaterDay, Auction.the-variants.Opening, Auction.the-variants.Closing, Limit.the-variants.At}
+use Rattle.terms.specs.Orders.{Resting, atPrice}
+use Rattle.terms.specs.declared.orders.{Side.the-variants.Buy, Side.the-variants.Sell, Validity.the-variants.AtOpening, Validity.the-variants.AtClose, Validity.the-variants.Day, Validity.the-variants.LaterDay, Auction.the-variants.Opening, Auction.the-variants.Closing}
 use Rattle.queue.specs.Part.{takingPart}
 use Rattle.queue.specs.Rank.{ranked}
 
@@ -13,7 +13,7 @@ numbersOf os = map (λ o. o .number) os
 
 -- one order of each validity
 abbrev four : List Resting
-four = order 1 Buy AtOpening 5 (At 100) ∷ order 2 Buy AtClose 5 (At 100) ∷ order 3 Buy Day 5 (At 100) ∷ order 4 Buy LaterDay 5 (At 100) ∷ []
+four = order 1 Buy AtOpening 5 (atPrice 100) ∷ order 2 Buy AtClose 5 (atPrice 100) ∷ order 3 Buy Day 5 (atPrice 100) ∷ order 4 Buy LaterDay 5 (atPrice 100) ∷ []
 
 -- the opening leaves at-the-close orders out; the closing leaves none out
 at-the-opening : numbersOf (takingPart Opening four) ≡ 1 ∷ 3 ∷ 4 ∷ []

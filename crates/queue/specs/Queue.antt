@@ -13,11 +13,11 @@ use Rattle.lists.specs.Choice.{keep}
 use Rattle.lists.specs.Ranking.{rank, rank-elim, Agreeing, rank-map}
 use Rattle.terms.specs.Bounds.{places, maxPrice, maxNumber}
 use Rattle.terms.specs.Kinds.{isPrice, isMultiple}
-use Rattle.terms.specs.Orders.{Resting, sideNumber, validityNumber, limitFrom, isLegal}
+use Rattle.terms.specs.Orders.{Resting, sideNumber, validityNumber, limitFrom, isLegal, sideFrom, validityFrom}
 use Rattle.terms.specs.declared.orders.{Side.Side, Side.the-variants.Buy, Side.the-variants.Sell, Auction.Auction, Auction.the-variants.Opening, Auction.the-variants.Closing, Validity.Validity, Validity.the-variants.AtOpening, Validity.the-variants.AtClose, Validity.the-variants.Day, Validity.the-variants.LaterDay}
 use Rattle.book.specs.declared.Book.{Book}
 use Rattle.places.specs.Places.{isTaken}
-use Rattle.book.specs.Columns.{sideFrom, validityFrom, orderAt}
+use Rattle.book.specs.Columns.{orderAt}
 use Rattle.book.specs.declared.Values.{Values}
 use Rattle.book.specs.Resting.{restingAt, restingTo, resting}
 use Rattle.book.specs.Sound.{SoundBook}

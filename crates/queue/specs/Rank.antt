@@ -24,7 +24,7 @@ abbrev pub betterLimit : Side → Limit → Limit → Bool
 betterLimit s Unlimited Unlimited = false
 betterLimit s Unlimited (At q) = true
 betterLimit s (At p) Unlimited = false
-betterLimit s (At p) (At q) = betterPrice s p q
+betterLimit s (At p) (At q) = betterPrice s (p .0) (q .0)
 
 -- .. then, where neither limit is better, the lower number
 abbrev pub earlier : Side → Resting → Resting → Bool
@@ -56,7 +56,7 @@ betterPrice-trans Sell p q r h k = omega tests
 
 betterLimit-irrefl : (s : Side) (u : Limit) → T (betterLimit s u u) → ⊥
 betterLimit-irrefl s Unlimited h = h
-betterLimit-irrefl s (At p) h = betterPrice-irrefl s p h
+betterLimit-irrefl s (At p) h = betterPrice-irrefl s (p .0) h
 
 betterLimit-or : (s : Side) (u v w : Limit) → T (betterLimit s u w) → T (betterLimit s u v) ⊎ T (betterLimit s v w)
 betterLimit-or s Unlimited v Unlimited h = absurd h
@@ -64,7 +64,7 @@ betterLimit-or s Unlimited Unlimited (At r) h = inr tt
 betterLimit-or s Unlimited (At q) (At r) h = inl tt
 betterLimit-or s (At p) v Unlimited h = absurd h
 betterLimit-or s (At p) Unlimited (At r) h = inr tt
-betterLimit-or s (At p) (At q) (At r) h = betterPrice-or s p q r h
+betterLimit-or s (At p) (At q) (At r) h = betterPrice-or s (p .0) (q .0) (r .0) h
 
 betterLimit-trans : (s : Side) (u v w : Limit) → T (betterLimit s u v) → T (betterLimit s v w) → T (betterLimit s u w)
 betterLimit-trans s Unlimited v Unlimited h k = noBetter v k
@@ -75,7 +75,7 @@ betterLimit-trans s Unlimited v Unlimited h k = noBetter v k
 betterLimit-trans s Unlimited v (At r) h k = tt
 betterLimit-trans s (At p) Unlimited w h k = absurd h
 betterLimit-trans s (At p) (At q) Unlimited h k = k
-betterLimit-trans s (At p) (At q) (At r) h k = betterPrice-trans s p q r h k
+betterLimit-trans s (At p) (At q) (At r) h k = betterPrice-trans s (p .0) (q .0) (r .0) h k
 
 -- the limit of one that is behind is not better
 pub ahead-limit : (s : Side) (a b : Resting) → T (ahead s a b) → T (not (betterLimit s (b .limit) (a .limit)))

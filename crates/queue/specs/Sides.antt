@@ -21,7 +21,7 @@ noWorse Sell p q = leb q p
 -- a limit allows the price p: it is unlimited, or (buys) at least p, (sells) at most p
 abbrev pub allows : Side → ℕ → Limit → Bool
 allows s p Unlimited = true
-allows s p (At l) = noWorse s p l
+allows s p (At l) = noWorse s p (l .0)
 
 abbrev pub isUnlimited : Limit → Bool
 isUnlimited Unlimited = true
