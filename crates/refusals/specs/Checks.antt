@@ -1,8 +1,11 @@
 -- Checks: 01 "Refusals by number". The refusals of a call are rows in the order of checks; the first hit answers.
-use Prim.Native.Nat.{ℕ}
-use mathlib.Core.Bool.{Bool, true, false, cond}
-use mathlib.Core.List.{List, [], _∷_}
-use mathlib.Core.Path.{_≡_}
+use Prim.Native.Nat.{ℕ, zero, suc}
+use mathlib.Core.Bool.{Bool, true, false, cond, _&&_}
+use mathlib.Core.List.{List, [], _∷_, _++_}
+use lib.Dec.{T, ltb}
+use mathlib.Core.Logic.{_≢_}
+use mathlib.Core.Path.{_≡_, refl, sym, ap, _∙_}
+use native.Mathlib.Omega.{arith}
 
 -- a refusal's number, and whether its rule hits
 pub record Check : Type 0 where
@@ -17,6 +20,36 @@ unfoldable pub firstHit : List Check → ℕ
 firstHit [] = 0
 firstHit (c ∷ cs) = cond (c .hit) (c .number) (firstHit cs)
 
+-- each number is above 0
+abbrev pub numbered : List Check → Bool
+numbered [] = true
+numbered (c ∷ cs) = ltb 0 (c .number) && numbered cs
+
+-- what a call answers by its checks: the refusal of the first hit, or what is done
+abbrev answeredBy : {A : Type 0} → ℕ → (ℕ → A) → A → A
+answeredBy zero refused done = done
+answeredBy (suc n) refused done = refused (suc n)
+
+abbrev pub answered : {A : Type 0} → List Check → (ℕ → A) → A → A
+answered checks refused done = answeredBy (firstHit checks) refused done
+
+-- .. by what is known of the first hit
+module _ {A : Type 0} (checks : List Check) (refused : ℕ → A) (done : A) where
+  pub answered-refused : {n : ℕ} → n ≡ firstHit checks → n ≢ 0 → refused n ≡ answered checks refused done
+  answered-refused {n} e h = go n h ∙ ap (λ (m : ℕ). answeredBy m refused done) e where
+    go : (m : ℕ) → m ≢ 0 → refused m ≡ answeredBy m refused done
+    go zero k = absurd (k refl)
+    go (suc m) k = refl
+
+  pub answered-done : 0 ≡ firstHit checks → done ≡ answered checks refused done
+  answered-done e = ap (λ (m : ℕ). answeredBy m refused done) e
+
+  pub answered-cases : (P : A → Type 0) → ((n : ℕ) → n ≢ 0 → n ≡ firstHit checks → P (refused n)) → (0 ≡ firstHit checks → P done) → P (answered checks refused done)
+  answered-cases P refuses does = go (firstHit checks) refl where
+    go : (m : ℕ) → m ≡ firstHit checks → P (answeredBy m refused done)
+    go zero e = does e
+    go (suc m) e = refuses (suc m) (λ z. omega arith) e
+
 -- check by check: one that hits answers, one that doesn't leaves the answer to those after it
 pub hits : (number : ℕ) {hit : Bool} (later : List Check) → hit ≡ true → number ≡ firstHit (check number hit ∷ later)
 unfolding firstHit
@@ -25,3 +58,8 @@ hits number later e = rw e
 pub passes : (number : ℕ) {answer : ℕ} {hit : Bool} (later : List Check) → hit ≡ false → answer ≡ firstHit later → answer ≡ firstHit (check number hit ∷ later)
 unfolding firstHit
 passes number later e h = rw e h
+
+-- .. the last one that doesn't leaves 0
+pub passes-last : (number : ℕ) {hit : Bool} → hit ≡ false → 0 ≡ firstHit (check number hit ∷ [])
+unfolding firstHit
+passes-last number e = rw e

@@ -9,7 +9,7 @@ use borrow.Author.Tests.{eqb-true, eqb-false}
 use lib.Dec.{T, eqb, ltb}
 use Rattle.lists.specs.Tests.{tests, and-both}
 use Rattle.lists.specs.Choice.{any}
-use Rattle.refusals.specs.Checks.{Check, firstHit}
+use Rattle.refusals.specs.Checks.{Check, firstHit, numbered}
 
 -- the rule of refusal k among the checks, and the checks before it
 abbrev pub ruleOf : ℕ → List Check → Bool
@@ -53,6 +53,19 @@ none-hit (c ∷ cs) w =
     go : (b : Bool) → T (ltb 0 (c .number)) → (firstHit cs ≡ 0) ↔ NoneHit cs → (cond b (c .number) (firstHit cs) ≡ 0) ↔ ((b ≡ false) × NoneHit cs)
     go true above below = ((λ e. absurd (omega tests)), (λ (h, k). absurd (true≢false h)))
     go false above below = ((λ e. (refl, below .0 e)), (λ (h, k). below .1 k))
+
+-- where nothing was refused, no check's rule holds, whichever its number
+pub clear : (cs : List Check) → T (numbered cs) → 0 ≡ firstHit cs → (k : ℕ) → ruleOf k cs ≡ false
+unfolding firstHit
+clear [] w e k = refl
+clear (c ∷ cs) w e k =
+    let (above, rest) = and-both (ltb 0 (c .number)) _ w in
+    go (c .hit) refl (eqb (c .number) k) above e (λ i. clear cs rest i k)
+  where
+    go : (b : Bool) → c .hit ≡ b → (t : Bool) → T (ltb 0 (c .number)) → 0 ≡ cond b (c .number) (firstHit cs) → (0 ≡ firstHit cs → ruleOf k cs ≡ false) → cond t (c .hit) (ruleOf k cs) ≡ false
+    go true i t above e below = absurd (omega tests)
+    go false i true above e below = i
+    go false i false above e below = below e
 
 pub given-exactly-when : (cs : List Check) → T (wellNumbered cs) → (k : ℕ) → 0 < k → (firstHit cs ≡ k) ↔ (T (ruleOf k cs) × NoneHit (earlier k cs))
 unfolding firstHit

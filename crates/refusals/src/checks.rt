@@ -1,4 +1,4 @@
-// The checks of the calls: 01 "Refusals by number", each call's in its order. 0 means none.
+// The checks of the calls behind the first, which is the constructors': 01 "Refusals by number", each call's in its order. 0 means none.
 use crate::controls::off_step;
 use crate::controls::reaches_collar;
 use crate::controls::reaches_most;
@@ -8,45 +8,35 @@ use crate::phases::allows_auction;
 use crate::phases::allows_order;
 use crate::phases::has_started;
 use terms::Auction;
-use terms::Entry;
-use terms::Member;
 use terms::Number;
+use terms::Order;
 use terms::Parameters;
 use terms::Place;
-use terms::Side;
+use terms::Price;
 use trades::Trade;
 ghost use mathlib.Core.Path.{_≡_};
-ghost use mathlib.Core.Bool.{cond, not};
+ghost use mathlib.Core.Bool.{not};
 ghost use Rattle.terms.specs.Kinds.{isPlace};
 ghost use Rattle.refusals.specs.Checks.{firstHit};
-ghost use Rattle.refusals.specs.Rows.{orderRows, deleteRows, auctionRefusal, auctionRows, theoreticalRows, rankedRows, frontRows};
-
-// A check in front of those that come later.
-fn first_of(hit: bool, number: u8, later: u8) -> u8
-    ensures { λ r. ⌜ r ≡ cond hit number later ⌝ }
-{
-    if hit { number } else { later }
-}
+ghost use Rattle.refusals.specs.Rows.{orderLater, deleteLater, theoreticalLater, auctionLater, rankedLater};
 
 // Which refusal an order gets, by the reference price of the controls, the last number given and whether all places are taken.
 pub fn order_refusal(
     phase: Phase,
     p: Parameters,
-    reference: u32,
+    reference: Price,
     given: u32,
     full: bool,
-    e: Entry,
+    o: Order,
 ) -> u8
-    ensures { λ r. ⌜ r ≡ firstHit (orderRows phase p reference given full e) ⌝ }
+    ensures { λ r. ⌜ r ≡ firstHit (orderLater phase p reference given full o) ⌝ }
 {
-    let limit = e.limit;
-    if !e.holds() {
-        return 1;
-    }
+    let limit = o.limit;
+    let validity = o.validity;
     if !has_started(phase) {
         return 2;
     }
-    if !allows_order(phase, e.validity) {
+    if !allows_order(phase, validity) {
         return 4;
     }
     if off_step(p.step, limit) {
@@ -55,10 +45,10 @@ pub fn order_refusal(
     if reaches_collar(reference, p.factor, limit) {
         return 6;
     }
-    if reaches_most(p.most, e.quantity, limit) {
+    if reaches_most(p.most, o.quantity, limit) {
         return 7;
     }
-    if reaches_most_at_reference(p.most, e.quantity, reference) {
+    if reaches_most_at_reference(p.most, o.quantity, reference) {
         return 8;
     }
     if Number::MAX <= given {
@@ -71,47 +61,54 @@ pub fn order_refusal(
 }
 
 // Which refusal a deletion gets; the order asked for stands at the place, or nowhere.
-pub fn delete_refusal(phase: Phase, number: u32, member: u16, place: usize) -> u8
-    ensures { λ r. ⌜ r ≡ firstHit (deleteRows phase number member (not (isPlace place))) ⌝ }
+pub fn delete_refusal(phase: Phase, place: usize) -> u8
+    ensures { λ r. ⌜ r ≡ firstHit (deleteLater phase (not (isPlace place))) ⌝ }
 {
-    let r11 = first_of(!Place::holds(place), 11, 0);
-    let r2 = first_of(!has_started(phase), 2, r11);
-    first_of(!(Number::holds(number) & Member::holds(member)), 1, r2)
+    if !has_started(phase) {
+        return 2;
+    }
+    if !Place::holds(place) {
+        return 11;
+    }
+    0
 }
 
-// The checks that an auction and the theoretical answer share, in front of those that come later.
-fn auction_refusal_or(phase: Phase, which: u8, later: u8) -> u8
-    ensures { λ r. ⌜ r ≡ auctionRefusal phase which later ⌝ }
+pub fn theoretical_refusal(phase: Phase, auction: Auction) -> u8
+    ensures { λ r. ⌜ r ≡ firstHit (theoreticalLater phase auction) ⌝ }
 {
-    let r4 = first_of(!allows_auction(phase, which), 4, later);
-    let r2 = first_of(!has_started(phase), 2, r4);
-    first_of(!Auction::holds(which), 1, r2)
+    if !has_started(phase) {
+        return 2;
+    }
+    if !allows_auction(phase, auction) {
+        return 4;
+    }
+    0
 }
 
-pub fn auction_refusal(phase: Phase, which: u8, size: usize) -> u8
-    ensures { λ r. ⌜ r ≡ firstHit (auctionRows phase which size) ⌝ }
+// By the length of the lent list.
+pub fn auction_refusal(phase: Phase, auction: Auction, size: usize) -> u8
+    ensures { λ r. ⌜ r ≡ firstHit (auctionLater phase auction size) ⌝ }
 {
-    auction_refusal_or(phase, which, first_of(size < Trade::LIST, 12, 0))
+    if !has_started(phase) {
+        return 2;
+    }
+    if !allows_auction(phase, auction) {
+        return 4;
+    }
+    if size < Trade::LIST {
+        return 12;
+    }
+    0
 }
 
-pub fn theoretical_refusal(phase: Phase, which: u8) -> u8
-    ensures { λ r. ⌜ r ≡ firstHit (theoreticalRows phase which) ⌝ }
+pub fn ranked_refusal(phase: Phase, size: usize) -> u8
+    ensures { λ r. ⌜ r ≡ firstHit (rankedLater phase size) ⌝ }
 {
-    auction_refusal_or(phase, which, 0)
-}
-
-pub fn ranked_refusal(phase: Phase, side: u8, which: u8, size: usize) -> u8
-    ensures { λ r. ⌜ r ≡ firstHit (rankedRows phase side which size) ⌝ }
-{
-    let r12 = first_of(size < Place::COUNT, 12, 0);
-    let r2 = first_of(!has_started(phase), 2, r12);
-    first_of(!(Side::holds(side) & Auction::holds(which)), 1, r2)
-}
-
-// Of a filled front, by the lengths of the two lists.
-pub fn front_refusal(buys: usize, sells: usize, side: u8) -> u8
-    ensures { λ r. ⌜ r ≡ firstHit (frontRows buys sells side) ⌝ }
-{
-    let long = (Place::COUNT < buys) | (Place::COUNT < sells);
-    first_of(long | !Side::holds(side), 1, 0)
+    if !has_started(phase) {
+        return 2;
+    }
+    if size < Place::COUNT {
+        return 12;
+    }
+    0
 }

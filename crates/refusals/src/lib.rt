@@ -6,7 +6,6 @@ mod phases;
 
 pub use checks::auction_refusal;
 pub use checks::delete_refusal;
-pub use checks::front_refusal;
 pub use checks::order_refusal;
 pub use checks::ranked_refusal;
 pub use checks::theoretical_refusal;

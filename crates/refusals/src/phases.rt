@@ -2,7 +2,7 @@
 use terms::Auction;
 use terms::Validity;
 ghost use mathlib.Core.Path.{_≡_};
-ghost use Rattle.refusals.specs.Phases.{hasStarted, allowsOrder, allowsAuction, phaseAfter};
+ghost use Rattle.refusals.specs.Phases.{hasStarted, isPreOpening, isDay, isAtOpening, allowsOrder, allowsAuction, phaseAfter};
 
 pub enum Phase {
     Fresh,
@@ -32,26 +32,52 @@ pub fn has_started(phase: Phase) -> bool
     }
 }
 
-// Orders are refused when closed; validity 1 only in pre-opening.
-pub fn allows_order(phase: Phase, validity: u8) -> bool
-    ensures { λ r. ⌜ r ≡ allowsOrder phase validity ⌝ }
+fn is_pre_opening(phase: Phase) -> bool
+    ensures { λ r. ⌜ r ≡ isPreOpening phase ⌝ }
 {
     match phase {
         Phase::Fresh => false,
         Phase::PreOpening => true,
-        Phase::Day => validity != Validity::AT_OPENING,
+        Phase::Day => false,
         Phase::Closed => false,
     }
 }
 
-// An opening auction only in pre-opening, a closing auction only in day.
-pub fn allows_auction(phase: Phase, which: u8) -> bool
-    ensures { λ r. ⌜ r ≡ allowsAuction phase which ⌝ }
+fn is_day(phase: Phase) -> bool
+    ensures { λ r. ⌜ r ≡ isDay phase ⌝ }
 {
     match phase {
         Phase::Fresh => false,
-        Phase::PreOpening => which == Auction::OPENING,
-        Phase::Day => which == Auction::CLOSING,
+        Phase::PreOpening => false,
+        Phase::Day => true,
         Phase::Closed => false,
+    }
+}
+
+fn is_at_opening(validity: Validity) -> bool
+    ensures { λ r. ⌜ r ≡ isAtOpening validity ⌝ }
+{
+    match validity {
+        Validity::AtOpening => true,
+        Validity::AtClose => false,
+        Validity::Day => false,
+        Validity::LaterDay => false,
+    }
+}
+
+// Orders are refused when closed; validity 1 only in pre-opening.
+pub fn allows_order(phase: Phase, validity: Validity) -> bool
+    ensures { λ r. ⌜ r ≡ allowsOrder phase validity ⌝ }
+{
+    is_pre_opening(phase) | (is_day(phase) & !is_at_opening(validity))
+}
+
+// An opening auction only in pre-opening, a closing auction only in day.
+pub fn allows_auction(phase: Phase, auction: Auction) -> bool
+    ensures { λ r. ⌜ r ≡ allowsAuction phase auction ⌝ }
+{
+    match auction {
+        Auction::Opening => is_pre_opening(phase),
+        Auction::Closing => is_day(phase),
     }
 }

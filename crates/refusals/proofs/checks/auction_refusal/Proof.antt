@@ -1,17 +1,40 @@
-use Rattle.refusals.specs.Checks.{firstHit}
+use mathlib.Core.Bool.{not}
+use mathlib.Core.Path.{sym, ap, _∙_}
 use borrow.Author.Needs.{needs}
+use borrow.Author.Tests.{lt-ltb, le-ltb}
+use Rattle.refusals.specs.Checks.{hits, passes, passes-last}
 use Rattle.refusals.proofs.checks.auction_refusal.Statement.{statement}
 use Rattle.refusals.proofs.checks.auction_refusal.Tie as tie
 
-first-of-requires : tie.Need-first-of-requires
-first-of-requires c κs = search needs
-
-auction-refusal-or-requires : tie.Need-auction-refusal-or-requires
-auction-refusal-or-requires c κs = search needs
+has-started-requires : tie.Need-has-started-requires
+has-started-requires c κs = search needs
 
 returns : tie.Need-returns
-unfolding firstHit
-returns c = simp (c .auction-refusal-or .ensures, c .before .first-of .ensures)
+returns c = hits 2 _ (sym (ap not (c .before .has-started .ensures)) ∙ c .if1 .taken)
+
+allows-auction-requires : tie.Need-allows-auction-requires
+allows-auction-requires c κs = search needs
+
+returns-2 : tie.Need-returns-2
+returns-2 c =
+    let k = c .before .before in
+    passes 2 _ (sym (ap not (k .before .has-started .ensures)) ∙ k .if1 .left) (hits 4 _ (sym (ap not (c .before .allows-auction .ensures)) ∙ c .if2 .taken))
+
+returns-3 : tie.Need-returns-3
+returns-3 c =
+    let k = c .before in
+    let j = k .before .before in
+    passes 2 _ (sym (ap not (j .before .has-started .ensures)) ∙ j .if1 .left)
+    (passes 4 _ (sym (ap not (k .before .allows-auction .ensures)) ∙ k .if2 .left) (hits 12 _ (lt-ltb _ _ (c .if3 .taken))))
+
+returns-4 : tie.Need-returns-4
+returns-4 c =
+    let k = c .before in
+    let j = k .before .before in
+    passes 2 _ (sym (ap not (j .before .has-started .ensures)) ∙ j .if1 .left)
+    (passes 4 _ (sym (ap not (k .before .allows-auction .ensures)) ∙ k .if2 .left) (passes-last 12 (le-ltb _ _ (c .if3 .left))))
 
 pub auction-refusal-spec : {M : Type 1} → statement M
-auction-refusal-spec = tie.close (tie.spec first-of-requires auction-refusal-or-requires returns)
+auction-refusal-spec =
+    tie.close
+    (tie.spec has-started-requires returns allows-auction-requires returns-2 returns-3 returns-4)

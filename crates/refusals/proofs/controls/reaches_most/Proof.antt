@@ -8,6 +8,9 @@ enum-told c = search needs
 enum-known-limit : tie.Need-enum-known-limit
 enum-known-limit c = search needs
 
+number-requires : tie.Need-number-requires
+number-requires c κs = search needs
+
 of-requires : tie.Need-of-requires
 of-requires c κs = search needs
 
@@ -15,7 +18,7 @@ returns : tie.Need-returns
 returns c = search needs
 
 returns-2 : tie.Need-returns-2
-returns-2 c = rw (c .before .before .limit .given .1, c .of .ensures)
+returns-2 c = rw (c .before .before .before .limit .given .1, c .of .ensures, c .before .number .ensures)
 
 pub reaches-most-spec : {M : Type 1} → statement M
-reaches-most-spec = tie.close (tie.spec enum-told enum-known-limit of-requires returns returns-2)
+reaches-most-spec = tie.close (tie.spec enum-told enum-known-limit number-requires of-requires returns returns-2)

@@ -2,31 +2,17 @@ use borrow.Author.Needs.{needs}
 use Rattle.refusals.proofs.phases.allows_order.Statement.{statement}
 use Rattle.refusals.proofs.phases.allows_order.Tie as tie
 
-enum-told : tie.Need-enum-told
-enum-told c = search needs
+is-pre-opening-requires : tie.Need-is-pre-opening-requires
+is-pre-opening-requires c κs = search needs
 
-enum-told-2 : tie.Need-enum-told-2
-enum-told-2 c = search needs
+is-day-requires : tie.Need-is-day-requires
+is-day-requires c κs = search needs
 
-enum-told-3 : tie.Need-enum-told-3
-enum-told-3 c = search needs
-
-enum-told-4 : tie.Need-enum-told-4
-enum-told-4 c = search needs
+is-at-opening-requires : tie.Need-is-at-opening-requires
+is-at-opening-requires c κs = search needs
 
 returns : tie.Need-returns
-returns c = search needs
-
-returns-2 : tie.Need-returns-2
-returns-2 c = search needs
-
-returns-3 : tie.Need-returns-3
-returns-3 c = rw (c .enum-told3 .given .1)
-
-returns-4 : tie.Need-returns-4
-returns-4 c = search needs
+returns c = simp (c .is-at-opening .ensures, c .before .is-day .ensures, c .before .before .is-pre-opening .ensures)
 
 pub allows-order-spec : {M : Type 1} → statement M
-allows-order-spec =
-    tie.close
-    (tie.spec enum-told enum-told-2 enum-told-3 enum-told-4 returns returns-2 returns-3 returns-4)
+allows-order-spec = tie.close (tie.spec is-pre-opening-requires is-day-requires is-at-opening-requires returns)
