@@ -1,13 +1,13 @@
 -- Worked examples: the outcomes, the trades of 01 "Session file", and what leaves the book.
 use Prim.Native.Nat.{ℕ}
-use mathlib.Core.Bool.{Bool, true, false}
+use mathlib.Core.Bool.{true, false}
 use mathlib.Core.Option.{some, none}
 use mathlib.Core.Path.{_≡_, refl}
 use mathlib.Core.List.{List, [], _∷_}
 use Rattle.lists.specs.Sums.{apart}
 use Rattle.terms.specs.Samples.{order, buy, sell, buyAny}
 use Rattle.terms.specs.Orders.{Resting, atPrice}
-use Rattle.terms.specs.declared.orders.{Side.the-variants.Buy, Validity.the-variants.AtOpening, Validity.the-variants.AtClose, Validity.the-variants.Day, Validity.the-variants.LaterDay, Auction.Auction, Auction.the-variants.Opening, Auction.the-variants.Closing}
+use Rattle.terms.specs.declared.orders.{Side.the-variants.Buy, Validity.the-variants.AtOpening, Validity.the-variants.AtClose, Validity.the-variants.Day, Validity.the-variants.LaterDay, Auction.the-variants.Opening, Auction.the-variants.Closing}
 use Rattle.queue.specs.Rank.{ranked}
 use Rattle.price.specs.Interest.{interest}
 use Rattle.price.specs.Candidates.{mostExecutable}
@@ -16,7 +16,7 @@ use Rattle.trades.specs.declared.{Trade.Trade}
 use Rattle.auction.specs.declared.{Outcome.Outcome, Outcome.the-variants.Traded, Outcome.the-variants.NoTrade, Outcome.the-variants.NonOpening, Outcome.the-variants.Delayed}
 use Rattle.trades.specs.Trades.{traded}
 use Rattle.trades.specs.Fills.{fills, tradesOf}
-use Rattle.auction.specs.Outcome.{nonOpening, outcome, trades}
+use Rattle.auction.specs.Outcome.{Held, unheld, nonOpening, outcome, trades}
 use Rattle.auction.specs.After.{restOf}
 
 unfoldable computing : Unit {0}
@@ -24,37 +24,43 @@ unfolding apart interest mostExecutable auctionPrice ranked fills tradesOf trade
 computing = tt
 
 -- threshold 150, reference 100,000
-abbrev outcomeOn : Auction → Bool → List Resting → Outcome
-outcomeOn a delayed book = outcome a delayed 150 100_000 book
+abbrev outcomeOn : Held → List Resting → Outcome
+outcomeOn held book = outcome held 150 100_000 book
 
--- an unlimited order that stays unfilled prevents an opening, and not a closing
-prevents : outcomeOn Opening false (buyAny 1 50 ∷ sell 2 30 100_200 ∷ []) ≡ NonOpening
+abbrev heldByBoth : Held
+heldByBoth = record { preventable = true; delayable = true }
+
+abbrev heldByUnlimited : Held
+heldByUnlimited = record { preventable = true; delayable = false }
+
+-- an unlimited order that stays unfilled prevents an auction, unless nothing may hold it back
+prevents : outcomeOn heldByBoth (buyAny 1 50 ∷ sell 2 30 100_200 ∷ []) ≡ NonOpening
 unfolding computing
 prevents = refl
 
-closes : outcomeOn Closing false (buyAny 1 50 ∷ sell 2 30 100_200 ∷ []) ≡ Traded 100_200 30
+closes : outcomeOn unheld (buyAny 1 50 ∷ sell 2 30 100_200 ∷ []) ≡ Traded 100_200 30
 unfolding computing
 closes = refl
 
--- a price that reaches the threshold is delayed once; one step nearer it is not
-delayed-once : outcomeOn Opening false (buy 1 10 101_500 ∷ sell 2 10 101_500 ∷ []) ≡ Delayed 101_500 10
+-- a price that reaches the threshold delays an auction that may be delayed; one step nearer it doesn't
+delayed-once : outcomeOn heldByBoth (buy 1 10 101_500 ∷ sell 2 10 101_500 ∷ []) ≡ Delayed 101_500 10
 unfolding computing
 delayed-once = refl
 
-then-opened : outcomeOn Opening true (buy 1 10 101_500 ∷ sell 2 10 101_500 ∷ []) ≡ Traded 101_500 10
+then-opened : outcomeOn heldByUnlimited (buy 1 10 101_500 ∷ sell 2 10 101_500 ∷ []) ≡ Traded 101_500 10
 unfolding computing
 then-opened = refl
 
-not-delayed : outcomeOn Opening false (buy 1 10 101_400 ∷ sell 2 10 101_400 ∷ []) ≡ Traded 101_400 10
+not-delayed : outcomeOn heldByBoth (buy 1 10 101_400 ∷ sell 2 10 101_400 ∷ []) ≡ Traded 101_400 10
 unfolding computing
 not-delayed = refl
 
 -- Non Opening answers before Delayed Opening
-prevents-first : outcomeOn Opening false (buyAny 1 50 ∷ sell 2 30 101_500 ∷ []) ≡ NonOpening
+prevents-first : outcomeOn heldByBoth (buyAny 1 50 ∷ sell 2 30 101_500 ∷ []) ≡ NonOpening
 unfolding computing
 prevents-first = refl
 
-nothing : outcomeOn Opening false [] ≡ NoTrade
+nothing : outcomeOn heldByBoth [] ≡ NoTrade
 unfolding computing
 nothing = refl
 
@@ -65,7 +71,7 @@ workedBook = buy 1 50 100_200 ∷ buy 2 50 100_400 ∷ buy 3 50 100_200 ∷ sell
 abbrev trade : ℕ → ℕ → ℕ → Trade
 trade b s q = record { buy = b; sell = s; quantity = q }
 
-worked-outcome : outcomeOn Opening false workedBook ≡ Traded 100_200 80
+worked-outcome : outcomeOn heldByBoth workedBook ≡ Traded 100_200 80
 unfolding computing
 worked-outcome = refl
 

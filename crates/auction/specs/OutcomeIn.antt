@@ -1,6 +1,5 @@
 -- The outcome of a sound book, told by the ranks of its queues and the sums along them.
 use Prim.Native.Nat.{ℕ, zero, suc, _+_, _≤_, _<_}
-use mathlib.Core.Bool.{Bool}
 use mathlib.Core.Option.{some}
 use mathlib.Core.Logic.{_⊎_, inl, inr}
 use mathlib.Core.Path.{_≡_, refl, sym, ap, _∙_}
@@ -36,7 +35,7 @@ use Rattle.price.specs.Ladder.{sum-below-front, offered-is-interest}
 use Rattle.price.specs.Searched.{searched-most, searched-price}
 use Rattle.trades.specs.Fills.{queue-left}
 use Rattle.auction.specs.NonOpening.{unlimited-front}
-use Rattle.auction.specs.Outcome.{unlimited, outcome}
+use Rattle.auction.specs.Outcome.{Held, unlimited, outcome}
 use Rattle.auction.specs.Decided.{decided}
 use Rattle.auction.specs.Trading.{ranksOn, sumsOf, unlimitedIn, outcomeIn}
 
@@ -176,9 +175,9 @@ module _ (step given : ℕ) (b : Book) (sound : SoundBook step given b) (few : g
     found-price = searched-price reference part (offers Buy) (offers Sell) (entries Buy) (entries Sell) offered-both (entries-known Buy) (entries-known Sell) all-entered no-zero
 
   -- The outcome is that of the definition.
-  pub outcome-in : (delayed : Bool) (threshold reference : ℕ) → T (isReference step reference)
-      → outcomeIn a delayed threshold reference (b .limit) (b .left) (ranksOn b a Buy) (ranksOn b a Sell) ≡ outcome a delayed threshold reference (takingPart a (resting b))
+  pub outcome-in : (held : Held) (threshold reference : ℕ) → T (isReference step reference)
+      → outcomeIn held threshold reference (b .limit) (b .left) (ranksOn b a Buy) (ranksOn b a Sell) ≡ outcome held threshold reference (takingPart a (resting b))
   unfolding outcomeIn
-  outcome-in delayed threshold reference legal =
-      decided a delayed threshold reference part (found reference legal) (unlimitedIn Buy (b .left) (ranksOn b a Buy)) (unlimitedIn Sell (b .left) (ranksOn b a Sell))
+  outcome-in held threshold reference legal =
+      decided held threshold reference part (found reference legal) (unlimitedIn Buy (b .left) (ranksOn b a Buy)) (unlimitedIn Sell (b .left) (ranksOn b a Sell))
       (found-most reference legal) (found-price reference legal) (unlimited-on Buy) (unlimited-on Sell)

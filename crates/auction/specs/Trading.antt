@@ -1,6 +1,5 @@
 -- An auction from the columns of a book and the ranks of its queues: its outcome, its trades, and what rests at each place.
 use Prim.Native.Nat.{ℕ, _≤_}
-use mathlib.Core.Bool.{Bool}
 use mathlib.Core.List.{List}
 use lib.Dec.{leb}
 use lib.ListN.{length}
@@ -15,6 +14,7 @@ use Rattle.fills.specs.Shares.{sumsFrom, sharesOf, lessened}
 use Rattle.price.specs.Search.{sumBelow, offered, searchedIn}
 use Rattle.trades.specs.declared.{Trade.Trade}
 use Rattle.auction.specs.declared.{Outcome.Outcome}
+use Rattle.auction.specs.Outcome.{Held}
 use Rattle.auction.specs.Decided.{outcomeFrom}
 use Rattle.trades.specs.Fronts.{pairedShares}
 
@@ -33,9 +33,9 @@ sharesIn quantity lefts ranks = sharesOf quantity (along lefts ranks)
 abbrev pub unlimitedIn : Side → List ℕ → List ℕ → ℕ
 unlimitedIn s lefts ranks = sumBelow (rankBound s 0) ranks (sumsOf lefts ranks)
 
-unfoldable pub outcomeIn : Auction → Bool → ℕ → ℕ → List ℕ → List ℕ → List ℕ → List ℕ → Outcome
-outcomeIn a delayed threshold reference limits lefts buys sells =
-    outcomeFrom a delayed threshold reference
+unfoldable pub outcomeIn : Held → ℕ → ℕ → List ℕ → List ℕ → List ℕ → List ℕ → Outcome
+outcomeIn held threshold reference limits lefts buys sells =
+    outcomeFrom held threshold reference
     (searchedIn reference (offered Buy buys (sumsOf lefts buys)) (offered Sell sells (sumsOf lefts sells)) (along limits buys) (along limits sells))
     (unlimitedIn Buy lefts buys) (unlimitedIn Sell lefts sells)
 

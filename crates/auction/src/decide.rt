@@ -2,12 +2,12 @@
 use crate::Outcome;
 use price::Found;
 use price::apart;
-use terms::Auction;
 use terms::DelayThreshold;
 use terms::product;
 ghost use mathlib.Core.Path.{_≡_};
-ghost use Rattle.auction.specs.Outcome.{reaches as Outcome·reaches, delays as Outcome·delays};
-ghost use Rattle.auction.specs.Decided.{preventedBy, outcomeFrom};
+ghost use mathlib.Core.Bool.{_&&_};
+ghost use Rattle.auction.specs.Outcome.{exceeds, reaches as Outcome·reaches};
+ghost use Rattle.auction.specs.Decided.{outcomeFrom};
 
 // |price − reference| × 10,000 ≥ threshold × reference
 fn reaches(threshold: u16, reference: u32, price: u32) -> bool
@@ -17,44 +17,42 @@ fn reaches(threshold: u16, reference: u32, price: u32) -> bool
     product(threshold as u32, reference) <= away * DelayThreshold::WHOLE
 }
 
-// Delayed Opening: no delay has been given yet, and the price reaches the threshold; a closing is never delayed.
-fn delays(auction: Auction, delayed: bool, threshold: u16, reference: u32, price: u32) -> bool
-    ensures { λ r. ⌜ r ≡ Outcome·delays auction delayed threshold reference price ⌝ }
+// Delayed Opening: the auction may be delayed, and the price reaches the threshold.
+fn delays(delayable: bool, threshold: u16, reference: u32, price: u32) -> bool
+    ensures { λ r. ⌜ r ≡ (delayable && Outcome·reaches threshold reference price) ⌝ }
 {
-    match auction {
-        Auction::Opening => !delayed & reaches(threshold, reference, price),
-        Auction::Closing => false,
+    if delayable {
+        reaches(threshold, reference, price)
+    } else {
+        false
     }
 }
 
-// Non Opening: the unlimited quantity on either side exceeds what can be executed; a closing is never prevented.
-fn prevented(auction: Auction, most: u64, unlimited_buys: u64, unlimited_sells: u64) -> bool
-    ensures { λ r. ⌜ r ≡ preventedBy auction most «unlimited_buys» «unlimited_sells» ⌝ }
+// Non Opening: the auction may be prevented, and the unlimited quantity on either side exceeds what can be executed.
+fn prevented(preventable: bool, most: u64, unlimited_buys: u64, unlimited_sells: u64) -> bool
+    ensures { λ r. ⌜ r ≡ (preventable && exceeds most «unlimited_buys» «unlimited_sells») ⌝ }
 {
-    match auction {
-        Auction::Opening => (most < unlimited_buys) | (most < unlimited_sells),
-        Auction::Closing => false,
-    }
+    preventable & ((most < unlimited_buys) | (most < unlimited_sells))
 }
 
 pub fn outcome_of(
-    auction: Auction,
-    delayed: bool,
+    preventable: bool,
+    delayable: bool,
     threshold: u16,
     reference: u32,
     found: Found,
     unlimited_buys: u64,
     unlimited_sells: u64,
 ) -> Outcome
-    ensures { λ r. ⌜ r ≡ outcomeFrom auction delayed threshold reference found «unlimited_buys» «unlimited_sells» ⌝ }
+    ensures { λ r. ⌜ r ≡ outcomeFrom (record { preventable = preventable; delayable = delayable }) threshold reference found «unlimited_buys» «unlimited_sells» ⌝ }
 {
-    if prevented(auction, found.most, unlimited_buys, unlimited_sells) {
+    if prevented(preventable, found.most, unlimited_buys, unlimited_sells) {
         return Outcome::NonOpening;
     }
     if found.most == 0 {
         return Outcome::NoTrade;
     }
-    if delays(auction, delayed, threshold, reference, found.price) {
+    if delays(delayable, threshold, reference, found.price) {
         return Outcome::Delayed {
             price: found.price,
             quantity: found.most,

@@ -27,8 +27,8 @@ pub struct Closed {
 }
 
 pub fn outcome_now<'a>(
-    auction: Auction,
-    delayed: bool,
+    preventable: bool,
+    delayable: bool,
     threshold: u16,
     reference: u32,
     limits: &'a [u32; Place::COUNT],
@@ -37,7 +37,7 @@ pub fn outcome_now<'a>(
     sells: &'a [u64],
 ) -> Outcome
     requires { ⌜ Ranked leb (now buys) × (length (now buys) ≤ places) × Ranked leb (now sells) × (length (now sells) ≤ places) ⌝ }
-    ensures { λ r. ⌜ r ≡ outcomeIn auction delayed threshold reference (now (limits .entry)) (now (lefts .entry)) (now (buys .entry)) (now (sells .entry)) ⌝ }
+    ensures { λ r. ⌜ r ≡ outcomeIn (record { preventable = preventable; delayable = delayable }) threshold reference (now (limits .entry)) (now (lefts .entry)) (now (buys .entry)) (now (sells .entry)) ⌝ }
 {
     let mut buy_room = [0u64; Place::COUNT + 1];
     let mut sell_room = [0u64; Place::COUNT + 1];
@@ -57,8 +57,8 @@ pub fn outcome_now<'a>(
         sell_sums,
     );
     outcome_of(
-        auction,
-        delayed,
+        preventable,
+        delayable,
         threshold,
         reference,
         found,

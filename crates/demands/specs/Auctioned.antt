@@ -38,7 +38,7 @@ use Rattle.auction.specs.Settled.{rest-keeps}
 use Rattle.trades.specs.Written.{quadruples, quadruples-length, tradesRead, trades-back}
 use Rattle.session.specs.declared.{Session.Session}
 use Rattle.session.specs.Sound.{Sound}
-use Rattle.session.specs.Auctions.{AuctionLeaves, part, outcomeOf, tradesNow, sessionAfter, auctionDone, auctioned}
+use Rattle.session.specs.Auctions.{AuctionLeaves, part, heldBy, outcomeOf, tradesNow, sessionAfter, auctionDone, auctioned}
 use Rattle.demands.specs.Traded.{Ranged, sound-ranged, no-list-moves-more, bought-is-sold, nobody-passed-over, nothing-left-could-trade, list-of-trades}
 use Rattle.demands.specs.Outcomes.{CarriedOut, carried-out}
 
@@ -199,22 +199,22 @@ module _ (s : Session) (sound : Sound s) (a : Auction) (list : List ℕ) (room :
 
   moves-most : NoListMovesMore s a (auctionDone s a list)
   unfolding outcomeOf
-  moves-most = no-list-moves-more a (s .delayed) (s .parameters .threshold) (s .reference) (resting (s .book)) ranged h
+  moves-most = no-list-moves-more (heldBy s a) a (s .parameters .threshold) (s .reference) (resting (s .book)) ranged h
 
   sold : BoughtIsSold s a (auctionDone s a list)
   unfolding outcomeOf
   sold =
-      let law = bought-is-sold a (s .delayed) (s .parameters .threshold) (s .reference) (resting (s .book)) ranged h in
+      let law = bought-is-sold (heldBy s a) a (s .parameters .threshold) (s .reference) (resting (s .book)) ranged h in
       record { filled = law .filled; given = rw read-done (law .given); moved = rw read-done (law .moved) }
 
   ordered : NobodyPassedOver s a (auctionDone s a list)
   unfolding outcomeOf
-  ordered = rw read-done (nobody-passed-over a (s .delayed) (s .parameters .threshold) (s .reference) (resting (s .book)) ranged h)
+  ordered = rw read-done (nobody-passed-over (heldBy s a) a (s .parameters .threshold) (s .reference) (resting (s .book)) ranged h)
 
   left-over : NothingLeft s a (auctionDone s a list)
   unfolding outcomeOf
   left-over =
-      let law = nothing-left-could-trade a (s .delayed) (s .parameters .threshold) (s .reference) (resting (s .book)) ranged h in
+      let law = nothing-left-could-trade (heldBy s a) a (s .parameters .threshold) (s .reference) (resting (s .book)) ranged h in
       record {
         of-those = rw read-done law;
         resting-after = λ q. rw changed-done (after-executable (s .parameters .step) (s .given) a (tradesNow s a) (s .book) (sound .book-sound) q (law q));
@@ -233,7 +233,7 @@ module _ (s : Session) (sound : Sound s) (a : Auction) (list : List ℕ) (room :
   list-done : ListWritten s a list (auctionDone s a list)
   unfolding outcomeOf
   list-done =
-      let law = list-of-trades a (s .delayed) (s .parameters .threshold) (s .reference) (resting (s .book)) ranged h in
+      let law = list-of-trades (heldBy s a) a (s .parameters .threshold) (s .reference) (resting (s .book)) ranged h in
       let price = priceAnswered (outcomeOf s a) in
       let rest = drop (numbersPerTrade * length (tradesNow s a)) list in
       let prices = prices-back price (tradesNow s a) rest in

@@ -1,7 +1,7 @@
 -- The outcome that an auction's call answers: what each number means and what it changes (B9), the price (B7), Non Opening (C5); and the
 -- theoretical answer foresees it (B10).
 use Prim.Native.Nat.{ℕ, zero, suc, _≤_}
-use mathlib.Core.Bool.{Bool, true, false, cond, not, true≢false}
+use mathlib.Core.Bool.{Bool, true, false, cond, not, _&&_, true≢false}
 use mathlib.Core.Option.{Option, none, some, Option·none-ne-some, Option·some-injective}
 use mathlib.Core.Logic.{_⊎_, inl, inr, ⊎-elim, _↔_, _≢_}
 use mathlib.Core.Path.{_≡_, refl, sym, subst, _∙_}
@@ -22,7 +22,7 @@ use Rattle.queue.specs.Reach.{resting-sound}
 use Rattle.price.specs.Interest.{executable}
 use Rattle.price.specs.Chain.{auctionPrice}
 use Rattle.auction.specs.declared.{Outcome.Outcome, Outcome.the-variants.Traded, Outcome.the-variants.NoTrade, Outcome.the-variants.NonOpening, Outcome.the-variants.Delayed}
-use Rattle.auction.specs.Outcome.{outcome, prevented, delays, priced, trades, outcomeNumber, priceAnswered, takesPlace}
+use Rattle.auction.specs.Outcome.{outcome, prevented, reaches, delays, priced, trades, outcomeNumber, priceAnswered, takesPlace}
 use Rattle.auction.specs.NonOpening.{Fillable, non-opening-exactly}
 use Rattle.trades.specs.Written.{written}
 use Rattle.refusals.specs.declared.phases.{Phase.the-variants.PreOpening}
@@ -32,7 +32,7 @@ use Rattle.refusals.specs.Checks.{firstHit}
 use Rattle.refusals.specs.Exactly.{none-hit}
 use Rattle.session.specs.Entry.{startChecks, startAnswer, started, orderChecks, orderAnswer, entered, deleteChecks, deleteAnswer, deleted}
 use Rattle.session.specs.Sound.{Sound}
-use Rattle.session.specs.Auctions.{AuctionLeaves, part, outcomeOf, answerOf, delayGiven, sessionAfter, auctionLeaves, auctionChecks, auctionDone, auctionAnswer, auctioned, theoreticalChecks, theoreticalAnswer, theoretical}
+use Rattle.session.specs.Auctions.{AuctionLeaves, part, delayable, heldBy, outcomeOf, answerOf, delayGiven, sessionAfter, auctionLeaves, auctionChecks, auctionDone, auctionAnswer, auctioned, theoreticalChecks, theoreticalAnswer, theoretical}
 use Rattle.session.specs.AuctionCalls.{auction-started, auction-room, auction-carried-out}
 use Rattle.demands.specs.Answers.{auction-exactly}
 use Rattle.demands.specs.Sequences.{Call, after, run}
@@ -72,13 +72,13 @@ carried-out s a list accepted =
 
 -- what decides the outcome: unlimited orders prevent it, the price, and whether that price delays it
 abbrev pub isPrevented : Session → Auction → Bool
-isPrevented s a = prevented a (s .reference) (part s a)
+isPrevented s a = prevented (heldBy s a) (s .reference) (part s a)
 
 abbrev pub priceOf : Session → Auction → Option ℕ
 priceOf s a = auctionPrice (s .reference) (part s a)
 
 abbrev pub isDelayed : Session → Auction → ℕ → Bool
-isDelayed s a price = delays a (s .delayed) (s .parameters .threshold) (s .reference) price
+isDelayed s a price = delays (heldBy s a) (s .parameters .threshold) (s .reference) price
 
 -- B9, the order: Non Opening, Delayed Opening, then 1 with trades or 2 without; each number exactly when, and the price and quantity with it.
 pub record OutcomesInOrder (s : Session) (a : Auction) (r : AuctionAnswer) : Type 0 where
@@ -118,7 +118,7 @@ decided s a = prevents (isPrevented s a) refl
     }
 
     pricing : isPrevented s a ≡ false → (found : Option ℕ) → priceOf s a ≡ found
-        → OutcomesInOrder s a (answerOf (priced a (s .delayed) (s .parameters .threshold) (s .reference) (part s a) found) (part s a))
+        → OutcomesInOrder s a (answerOf (priced (heldBy s a) (s .parameters .threshold) (s .reference) (part s a) found) (part s a))
     pricing e none f = record {
       non-opening = ((λ i. absurd (omega arith)), (λ h. absurd (rw e at h)));
       delayed = ((λ i. absurd (omega arith)), (λ (h, (q, i, j)). absurd (Option·none-ne-some q (sym f ∙ i))));
@@ -131,7 +131,7 @@ decided s a = prevents (isPrevented s a) refl
     pricing e (some p) f = delaying p e f (isDelayed s a p) refl
 
     prevents : (b : Bool) → isPrevented s a ≡ b
-        → OutcomesInOrder s a (answerOf (cond b NonOpening (priced a (s .delayed) (s .parameters .threshold) (s .reference) (part s a) (priceOf s a))) (part s a))
+        → OutcomesInOrder s a (answerOf (cond b NonOpening (priced (heldBy s a) (s .parameters .threshold) (s .reference) (part s a) (priceOf s a))) (part s a))
     prevents true e = record {
       non-opening = ((λ i. rw e tt), (λ h. refl));
       delayed = ((λ i. absurd (omega arith)), (λ (h, x). absurd (rw e at h)));
@@ -288,7 +288,7 @@ mark-spent : (s : Session) (which : ℕ) (list : List ℕ) → s .delayed ≡ tr
 unfolding auctioned
 mark-spent s which list e = go (firstHit (auctionChecks s which (length list))) (auctionOf which)
   where
-    spent : (a : Auction) (d : Bool) (threshold reference price : ℕ) → d ≡ true → T (delays a d threshold reference price) → ⊥
+    spent : (a : Auction) (d : Bool) (threshold reference price : ℕ) → d ≡ true → T (delayable a d && reaches threshold reference price) → ⊥
     spent Opening true threshold reference price i h = h
     spent Opening false threshold reference price i h = true≢false (sym i)
     spent Closing d threshold reference price i h = h
@@ -327,7 +327,7 @@ pub closing-carried-out : (s : Session) (list : List ℕ) → auctioned s (aucti
 unfolding outcomeOf
 closing-carried-out s list accepted =
     rw (carried-out s Closing list accepted .leaves)
-    (one-of-two (outcomeOf s Closing) (every-closing-takes-place (s .delayed) (s .parameters .threshold) (s .reference) (resting (s .book))))
+    (one-of-two (outcomeOf s Closing) (every-closing-takes-place s (s .parameters .threshold) (s .reference) (resting (s .book))))
   where
     one-of-two : (o : Outcome) → T (takesPlace o) → (outcomeNumber o ≡ 1) ⊎ (outcomeNumber o ≡ 2)
     one-of-two (Traded price quantity) h = inl refl

@@ -1,6 +1,5 @@
 -- "Could more have traded?" (C1 to C6), over the definitions, for the opening and for the closing.
 use Prim.Native.Nat.{ℕ, _≤_, _<_}
-use mathlib.Core.Bool.{Bool}
 use mathlib.Core.Logic.{_↔_}
 use mathlib.Core.Path.{_≡_, refl, sym, _∙_}
 use mathlib.Core.List.{List, map}
@@ -15,6 +14,7 @@ use Rattle.book.specs.Resting.{resting}
 use Rattle.book.specs.Rests.{resting-length}
 use Rattle.session.specs.declared.{Session.Session}
 use Rattle.session.specs.Sound.{Sound}
+use Rattle.session.specs.Auctions.{heldBy}
 use Rattle.queue.specs.Reach.{resting-distinct, resting-live}
 use Rattle.queue.specs.Part.{takingPart, takingPart-distinct, takingPart-elim, takingPart-length}
 use Rattle.queue.specs.Distinct.{Distinct}
@@ -27,7 +27,7 @@ use Rattle.auction.specs.declared.{Outcome.Outcome, Outcome.the-variants.Traded
 use Rattle.trades.specs.Trades.{traded, volume, TradeList, volume-le-executable}
 use Rattle.trades.specs.Pairing.{amount}
 use Rattle.trades.specs.Fills.{fills, tradesOf, trades-none, fills-amount, trades-volume, trades-possible, trades-in-order, trades-positive, traded-side, trades-count}
-use Rattle.auction.specs.Outcome.{outcome, trades, priceAnswered, quantityAnswered, countAnswered, takesPlace, outcome-traded, outcome-no-trade, outcome-prevented, closing-takes-place}
+use Rattle.auction.specs.Outcome.{Held, outcome, trades, priceAnswered, quantityAnswered, countAnswered, takesPlace, outcome-traded, outcome-no-trade, outcome-prevented, unheld-takes-place}
 use Rattle.auction.specs.After.{remaining}
 use Rattle.auction.specs.Left.{nothing-left}
 use Rattle.auction.specs.NonOpening.{Fillable, non-opening-exactly}
@@ -46,14 +46,14 @@ sound-ranged s sound = record {
   few = resting-length (s .book) places;
 }
 
--- An auction of the resting orders: its mark, threshold and reference price are any.
-module _ (a : Auction) (delayed : Bool) (threshold reference : ℕ) (resting : List Resting) where
+-- An auction of the resting orders: what may hold it back, its threshold and reference price are any.
+module _ (held : Held) (a : Auction) (threshold reference : ℕ) (resting : List Resting) where
   -- those taking part, the outcome, its quantity and its trades
   abbrev pub book : List Resting
   book = takingPart a resting
 
   abbrev pub result : Outcome
-  result = outcome a delayed threshold reference book
+  result = outcome held threshold reference book
 
   abbrev pub quantity : ℕ
   quantity = quantityAnswered result
@@ -73,10 +73,10 @@ module _ (a : Auction) (delayed : Bool) (threshold reference : ℕ) (resting : L
     where
       go : (o : Outcome) → result ≡ o → T (takesPlace o) → TookPlace o
       go (Traded p q) e h =
-          let (found, i) = outcome-traded a delayed threshold reference book p q e in
+          let (found, i) = outcome-traded held threshold reference book p q e in
           record { enough = λ s. omega (arith, executable-within s p book); best = λ r. omega (arith, price-best reference book p found r); most = i ∙ price-most reference book p found; exact = refl }
       go NoTrade e h =
-          let found = outcome-no-trade a delayed threshold reference book e in
+          let found = outcome-no-trade held threshold reference book e in
           record { enough = λ s. omega arith; best = λ r. omega (arith, price-none reference book .0 found r); most = sym (no-price-most reference book found); exact = sym (trades-none book) }
       go NonOpening e h = absurd h
       go (Delayed p q) e h = absurd h
@@ -138,13 +138,13 @@ module _ (a : Auction) (delayed : Bool) (threshold reference : ℕ) (resting : L
         }
 
 -- C5. Non Opening exactly when no trade list at any price fills every unlimited order taking part ..
-pub non-opening-when-unfillable : (delayed : Bool) (threshold reference : ℕ) (resting : List Resting) → Distinct resting
-    → (result Opening delayed threshold reference resting ≡ NonOpening) ↔ (Fillable (takingPart Opening resting) → ⊥)
-non-opening-when-unfillable delayed threshold reference resting d =
+pub non-opening-when-unfillable : (s : Session) (threshold reference : ℕ) (resting : List Resting) → Distinct resting
+    → (result (heldBy s Opening) Opening threshold reference resting ≡ NonOpening) ↔ (Fillable (takingPart Opening resting) → ⊥)
+non-opening-when-unfillable s threshold reference resting d =
     let exactly = non-opening-exactly reference (takingPart Opening resting) (takingPart-distinct Opening resting d) in
-    let prevents = outcome-prevented Opening delayed threshold reference (takingPart Opening resting) in
+    let prevents = outcome-prevented (heldBy s Opening) threshold reference (takingPart Opening resting) in
     ((λ e. exactly .0 (prevents .0 e)), (λ no. prevents .1 (exactly .1 no)))
 
 -- .. and a closing is never held back
-pub every-closing-takes-place : (delayed : Bool) (threshold reference : ℕ) (resting : List Resting) → T (takesPlace (result Closing delayed threshold reference resting))
-every-closing-takes-place delayed threshold reference resting = closing-takes-place delayed threshold reference (takingPart Closing resting)
+pub every-closing-takes-place : (s : Session) (threshold reference : ℕ) (resting : List Resting) → T (takesPlace (result (heldBy s Closing) Closing threshold reference resting))
+every-closing-takes-place s threshold reference resting = unheld-takes-place threshold reference (takingPart Closing resting)

@@ -1,6 +1,6 @@
 -- The auction and the theoretical answer from what their code learns on the way, for the promises of `auction` and `theoretical`.
 use Prim.Native.Nat.{ℕ, zero, suc, _*_, _≤_}
-use mathlib.Core.Bool.{true}
+use mathlib.Core.Bool.{Bool, true}
 use mathlib.Core.Logic.{_≢_}
 use mathlib.Core.Path.{_≡_, refl, sym, ap, _∙_}
 use mathlib.Core.List.{List, _++_}
@@ -33,7 +33,7 @@ use Rattle.refusals.specs.Phases.{hasStarted, phaseAfter}
 use Rattle.refusals.specs.Checks.{firstHit}
 use Rattle.refusals.specs.Exactly.{none-hit}
 use Rattle.session.specs.Sound.{Sound}
-use Rattle.session.specs.Auctions.{part, outcomeOf, answerOf, delayGiven, auctionChecks, auctionLeaves, auctionRefused, auctionDone, auctionAnswer, auctioned, theoreticalChecks, theoreticalAnswer, theoretical, noAnswer}
+use Rattle.session.specs.Auctions.{part, preventable, delayable, heldBy, outcomeOf, answerOf, delayGiven, auctionChecks, auctionLeaves, auctionRefused, auctionDone, auctionAnswer, auctioned, theoreticalChecks, theoreticalAnswer, theoretical, noAnswer}
 
 -- the four numbers of an outcome with its trades counted
 abbrev pub answerWith : Outcome → ℕ → AuctionAnswer
@@ -83,7 +83,7 @@ module _ (s : Session) (sound : Sound s) (a : Auction) where
   enough : (price quantity : ℕ) → outcomeOf s a ≡ Traded price quantity → (on : Side) → quantity ≤ interest on price (part s a)
   unfolding outcomeOf
   enough price quantity e on =
-      let (found, i) = outcome-traded a (s .delayed) (s .parameters .threshold) (s .reference) (part s a) price quantity e in
+      let (found, i) = outcome-traded (heldBy s a) (s .parameters .threshold) (s .reference) (part s a) price quantity e in
       omega (arith, executable-within on price (part s a))
 
   -- each outcome, as the code leaves it
@@ -159,11 +159,12 @@ module _ (s : Session) (sound : Sound s) (a : Auction) where
 
   -- the outcome at this moment
   module _ (running : T (hasStarted (s .phase))) where
-    pub outcome-by-ranks : (buys sells : List ℕ) → buys ≡ ranksOn (s .book) a Buy → sells ≡ ranksOn (s .book) a Sell → (o : Outcome)
-        → o ≡ outcomeIn a (s .delayed) (s .parameters .threshold) (s .reference) (s .book .limit) (s .book .left) buys sells → o ≡ outcomeOf s a
+    pub outcome-by-ranks : (buys sells : List ℕ) → buys ≡ ranksOn (s .book) a Buy → sells ≡ ranksOn (s .book) a Sell
+        → (prevents delays : Bool) → prevents ≡ preventable a → delays ≡ delayable a (s .delayed) → (o : Outcome)
+        → o ≡ outcomeIn (record { preventable = prevents; delayable = delays }) (s .parameters .threshold) (s .reference) (s .book .limit) (s .book .left) buys sells → o ≡ outcomeOf s a
     unfolding outcomeOf
-    outcome-by-ranks buys sells e f o i =
-        i ∙ rw (e, f) (outcome-in (s .parameters .step) (s .given) (s .book) (sound .book-sound) (sound .numbers-left) a (s .delayed) (s .parameters .threshold) (s .reference) (sound .reference-holds running))
+    outcome-by-ranks buys sells e f prevents delays g h o i =
+        i ∙ rw (e, f, g, h) (outcome-in (s .parameters .step) (s .given) (s .book) (sound .book-sound) (sound .numbers-left) a (heldBy s a) (s .parameters .threshold) (s .reference) (sound .reference-holds running))
 
 -- an auction that is not refused is one, in a started session, with a list that is long enough
 module _ (s : Session) (which : ℕ) where

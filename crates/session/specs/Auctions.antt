@@ -1,15 +1,15 @@
 -- The auction and the theoretical answer: what each call returns and leaves, refusals included.
 use Prim.Native.Nat.{ℕ, zero, suc}
-use mathlib.Core.Bool.{true}
+use mathlib.Core.Bool.{Bool, true, false, not}
 use mathlib.Core.List.{List, []}
 use lib.ListN.{length}
 use Rattle.terms.specs.Orders.{Resting, auctionOf}
-use Rattle.terms.specs.declared.orders.{Auction.Auction, AuctionMade.AuctionMade}
+use Rattle.terms.specs.declared.orders.{Auction.Auction, Auction.the-variants.Opening, Auction.the-variants.Closing, AuctionMade.AuctionMade}
 use Rattle.book.specs.Resting.{resting, changed}
 use Rattle.queue.specs.Part.{takingPart}
 use Rattle.trades.specs.declared.{Trade.Trade}
 use Rattle.auction.specs.declared.{Outcome.Outcome, Outcome.the-variants.Traded, Outcome.the-variants.NoTrade, Outcome.the-variants.NonOpening, Outcome.the-variants.Delayed}
-use Rattle.auction.specs.Outcome.{outcome, trades, outcomeNumber, priceAnswered, quantityAnswered, countAnswered}
+use Rattle.auction.specs.Outcome.{Held, outcome, trades, outcomeNumber, priceAnswered, quantityAnswered, countAnswered}
 use Rattle.auction.specs.After.{restOf}
 use Rattle.trades.specs.Written.{written}
 use Rattle.session.specs.declared.{Session.Session, AuctionAnswer.AuctionAnswer, Auctioned.Auctioned, Foreseen.Foreseen}
@@ -17,12 +17,25 @@ use Rattle.refusals.specs.Phases.{phaseAfter}
 use Rattle.refusals.specs.Checks.{Check, firstHit}
 use Rattle.refusals.specs.Rows.{auctionRows, theoreticalRows}
 
--- the orders taking part, the outcome at this moment, and its trades
+-- the orders taking part, what may hold the auction back, the outcome at this moment, and its trades
 abbrev pub part : Session → Auction → List Resting
 part s a = takingPart a (resting (s .book))
 
+-- 01 "Outcomes", opening: outcome 3, and outcome 4 where "no delay has been given yet"; "Closing: outcome 1 or 2 only. Unlimited orders
+-- that stay unfilled don't prevent it"
+abbrev pub preventable : Auction → Bool
+preventable Opening = true
+preventable Closing = false
+
+abbrev pub delayable : Auction → Bool → Bool
+delayable Opening delayed = not delayed
+delayable Closing delayed = false
+
+abbrev pub heldBy : Session → Auction → Held
+heldBy s a = record { preventable = preventable a; delayable = delayable a (s .delayed) }
+
 unfoldable pub outcomeOf : Session → Auction → Outcome
-outcomeOf s a = outcome a (s .delayed) (s .parameters .threshold) (s .reference) (part s a)
+outcomeOf s a = outcome (heldBy s a) (s .parameters .threshold) (s .reference) (part s a)
 
 abbrev pub tradesNow : Session → Auction → List Trade
 tradesNow s a = trades (outcomeOf s a) (part s a)

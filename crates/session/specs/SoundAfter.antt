@@ -25,7 +25,7 @@ use Rattle.refusals.specs.Phases.{hasStarted, phaseAfter}
 use Rattle.refusals.specs.Checks.{firstHit}
 use Rattle.refusals.specs.Exactly.{none-hit}
 use Rattle.session.specs.Sound.{Sound}
-use Rattle.session.specs.Auctions.{part, outcomeOf, closedOut, sessionAfter, auctionChecks, auctionAnswer, auctioned}
+use Rattle.session.specs.Auctions.{part, heldBy, outcomeOf, closedOut, sessionAfter, auctionChecks, auctionAnswer, auctioned}
 
 later-phase : (a : Auction) → phaseAfter a ≡ Fresh → ⊥
 later-phase Opening e = let z : _≡_ {A = ℕ} 0 1 = cc in omega arith
@@ -47,7 +47,7 @@ module _ (s : Session) (sound : Sound s) (running : T (hasStarted (s .phase))) (
   traded-legal price quantity e =
       price-legal (s .parameters .step) (s .reference) (part s a) (sound .reference-holds running)
       (λ o m. resting-sound (s .parameters .step) (s .given) (s .book) (sound .book-sound) o (takingPart-elim a (resting (s .book)) m .0) .legal)
-      price (outcome-traded a (s .delayed) (s .parameters .threshold) (s .reference) (part s a) price quantity e .0)
+      price (outcome-traded (heldBy s a) (s .parameters .threshold) (s .reference) (part s a) price quantity e .0)
 
   after-sound : (o : Outcome) → outcomeOf s a ≡ o → Sound (sessionAfter s a (part s a) o)
   after-sound (Traded price quantity) e = closed-sound (trades (Traded price quantity) (part s a)) price (traded-legal price quantity e)

@@ -17,7 +17,7 @@ ghost use Rattle.terms.specs.declared.orders.{Side.the-variants.Buy, Side.the-v
 ghost use Rattle.auction.specs.Trading.{ranksOn};
 ghost use Rattle.trades.specs.Written.{quadruples};
 ghost use Rattle.refusals.specs.Phases.{hasStarted};
-ghost use Rattle.session.specs.Auctions.{part, outcomeOf, answerOf, delayGiven, noAnswer, auctionLeaves, auctionDone};
+ghost use Rattle.session.specs.Auctions.{preventable as Auctions·preventable, delayable as Auctions·delayable, part, outcomeOf, answerOf, delayGiven, noAnswer, auctionLeaves, auctionDone};
 ghost use Rattle.session.specs.AuctionCalls.{answerWith, tradesBy, closedBy};
 ghost use Rattle.session.specs.Sound.{Sound};
 
@@ -77,6 +77,26 @@ pub fn answer_with(outcome: Outcome, count: u32) -> AuctionAnswer
     }
 }
 
+// Unlimited orders that stay unfilled prevent an opening; they don't prevent a closing.
+fn preventable(auction: Auction) -> bool
+    ensures { λ r. ⌜ r ≡ Auctions·preventable auction ⌝ }
+{
+    match auction {
+        Auction::Opening => true,
+        Auction::Closing => false,
+    }
+}
+
+// A price that reaches the threshold delays an opening while no delay has been given yet; a closing is never delayed.
+fn delayable(auction: Auction, delayed: bool) -> bool
+    ensures { λ r. ⌜ r ≡ Auctions·delayable auction delayed ⌝ }
+{
+    match auction {
+        Auction::Opening => !delayed,
+        Auction::Closing => false,
+    }
+}
+
 impl Session {
     // The outcome at this moment; the ranks of both sides go to the two lists.
     pub(crate) fn outlook(self, auction: Auction, buys: &mut [u64], sells: &mut [u64]) -> Outlook
@@ -103,8 +123,8 @@ impl Session {
         );
         let parameters = self.parameters;
         let outcome = auction::outcome_now(
-            auction,
-            self.delayed,
+            preventable(auction),
+            delayable(auction, self.delayed),
             parameters.threshold,
             self.reference,
             &self.book.limit,

@@ -98,7 +98,7 @@ returns c =
     let d = c .before .before .before .before .before .before .before .before .before .before .before .before in
     let s = c .before .before .before .before .before .before .before .before .before in
     let a = c .before .before .before .before .before .before .before .before .before .before .before .before .before .before .before .before .args in
-    outcome-composed (a .auction) (a .delayed) (a .threshold) (a .reference) (a .limits .now) (a .lefts .now) (buys d) (sells s) (demands d) (supplies s) (d .sum-up .ensures) (s .sum-up2 .ensures)
+    outcome-composed (record { preventable = a .preventable; delayable = a .delayable }) (a .threshold) (a .reference) (a .limits .now) (a .lefts .now) (buys d) (sells s) (demands d) (supplies s) (d .sum-up .ensures) (s .sum-up2 .ensures)
     (searched .result) (searched .ensures) (rank-bound .result) (rank-bound .ensures) (sum-below .result) (sum-below .ensures)
     (c .before .before .rank-bound2 .result) (c .before .before .rank-bound2 .ensures) (c .before .sum-below2 .result) (c .before .sum-below2 .ensures) (c .outcome-of .result) (c .outcome-of .ensures)
 
