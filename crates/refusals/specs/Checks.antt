@@ -50,6 +50,14 @@ module _ {A : Type 0} (checks : List Check) (refused : ℕ → A) (done : A) whe
     go zero e = does e
     go (suc m) e = refuses (suc m) (λ z. omega arith) e
 
+-- .. read through a function
+pub answered-map : {A B : Type 0} (f : A → B) (checks : List Check) (refused : ℕ → A) (done : A)
+    → f (answered checks refused done) ≡ answered checks (λ n. f (refused n)) (f done)
+answered-map {A} {B} f checks refused done = go (firstHit checks) where
+  go : (n : ℕ) → f (answeredBy n refused done) ≡ answeredBy n (λ m. f (refused m)) (f done)
+  go zero = refl
+  go (suc n) = refl
+
 -- check by check: one that hits answers, one that doesn't leaves the answer to those after it
 pub hits : (number : ℕ) {hit : Bool} (later : List Check) → hit ≡ true → number ≡ firstHit (check number hit ∷ later)
 unfolding firstHit

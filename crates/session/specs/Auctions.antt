@@ -1,10 +1,11 @@
 -- The auction and the theoretical answer: what each call returns and leaves, refusals included.
-use Prim.Native.Nat.{ℕ, zero, suc}
+use Prim.Native.Nat.{ℕ}
 use mathlib.Core.Bool.{Bool, true, false, not}
 use mathlib.Core.List.{List, []}
 use lib.ListN.{length}
-use Rattle.terms.specs.Orders.{Resting, auctionOf}
-use Rattle.terms.specs.declared.orders.{Auction.Auction, Auction.the-variants.Opening, Auction.the-variants.Closing, AuctionMade.AuctionMade}
+use Rattle.terms.specs.Orders.{Resting, auctionFrom}
+use Rattle.terms.specs.declared.kinds.{Price.Price}
+use Rattle.terms.specs.declared.orders.{Auction.Auction, Auction.the-variants.Opening, Auction.the-variants.Closing}
 use Rattle.book.specs.Resting.{resting, changed}
 use Rattle.queue.specs.Part.{takingPart}
 use Rattle.trades.specs.declared.{Trade.Trade}
@@ -14,7 +15,8 @@ use Rattle.auction.specs.After.{restOf}
 use Rattle.trades.specs.Written.{written}
 use Rattle.session.specs.declared.{Session.Session, AuctionAnswer.AuctionAnswer, Auctioned.Auctioned, Foreseen.Foreseen}
 use Rattle.refusals.specs.Phases.{phaseAfter}
-use Rattle.refusals.specs.Checks.{Check, firstHit}
+use Rattle.session.specs.State.{passedOn, delayGiven}
+use Rattle.refusals.specs.Checks.{Check, answered}
 use Rattle.refusals.specs.Rows.{auctionRows, theoreticalRows}
 
 -- the orders taking part, what may hold the auction back, the outcome at this moment, and its trades
@@ -35,7 +37,7 @@ abbrev pub heldBy : Session → Auction → Held
 heldBy s a = record { preventable = preventable a; delayable = delayable a (s .delayed) }
 
 unfoldable pub outcomeOf : Session → Auction → Outcome
-outcomeOf s a = outcome (heldBy s a) (s .parameters .threshold) (s .reference) (part s a)
+outcomeOf s a = outcome (heldBy s a) (s .parameters .threshold .0) (s .reference .0) (part s a)
 
 abbrev pub tradesNow : Session → Auction → List Trade
 tradesNow s a = trades (outcomeOf s a) (part s a)
@@ -48,30 +50,12 @@ abbrev pub answerOf : Outcome → List Resting → AuctionAnswer
 answerOf o book = record { outcome = outcomeNumber o; price = priceAnswered o; quantity = quantityAnswered o; count = countAnswered o book }
 
 -- outcomes 1 and 2: the trades leave the book, the ended validities too, and the phase goes on
-abbrev pub closedOut : Session → Auction → List Trade → ℕ → Session
-closedOut s a done reference = record {
-  phase = phaseAfter a;
-  delayed = s .delayed;
-  parameters = s .parameters;
-  reference = reference;
-  given = s .given;
-  book = changed (restOf a done) (s .book);
-}
-
--- outcome 4: only the mark that the delay is spent changes
-abbrev pub delayGiven : Session → Session
-delayGiven s = record {
-  phase = s .phase;
-  delayed = true;
-  parameters = s .parameters;
-  reference = s .reference;
-  given = s .given;
-  book = s .book;
-}
+abbrev pub closedOut : Session → Auction → List Trade → Price → Session
+closedOut s a done reference = passedOn s (phaseAfter a) reference (changed (restOf a done) (s .book))
 
 -- the session after an outcome; with outcome 1 the price becomes the reference price, with outcome 3 nothing changes
 abbrev pub sessionAfter : Session → Auction → List Resting → Outcome → Session
-sessionAfter s a book (Traded price quantity) = closedOut s a (trades (Traded price quantity) book) price
+sessionAfter s a book (Traded price quantity) = closedOut s a (trades (Traded price quantity) book) (record { 0 = price })
 sessionAfter s a book NoTrade = closedOut s a [] (s .reference)
 sessionAfter s a book NonOpening = s
 sessionAfter s a book (Delayed price quantity) = delayGiven s
@@ -88,8 +72,8 @@ pub record AuctionLeaves : Type 0 where
 abbrev pub auctionLeaves : Auctioned → List ℕ → AuctionLeaves
 auctionLeaves returned list = record { returned = returned; list = list }
 
-abbrev pub auctionRefused : ℕ → Session → List ℕ → AuctionLeaves
-auctionRefused n s list = record { returned = record { answer = n; result = noAnswer; session = s }; list = list }
+abbrev pub auctionRefused : Session → List ℕ → ℕ → AuctionLeaves
+auctionRefused s list n = record { returned = record { answer = n; result = noAnswer; session = s }; list = list }
 
 abbrev pub auctionDone : Session → Auction → List ℕ → AuctionLeaves
 auctionDone s a list = record {
@@ -97,22 +81,18 @@ auctionDone s a list = record {
   list = written (priceAnswered (outcomeOf s a)) (tradesNow s a) list;
 }
 
-abbrev pub auctionAnswer : ℕ → AuctionMade → Session → List ℕ → AuctionLeaves
-auctionAnswer (suc n) which s list = auctionRefused (suc n) s list
-auctionAnswer zero AuctionMade.Refused s list = auctionRefused 1 s list
-auctionAnswer zero (AuctionMade.Good a) s list = auctionDone s a list
-
 unfoldable pub auctioned : Session → ℕ → List ℕ → AuctionLeaves
-auctioned s which list = auctionAnswer (firstHit (auctionChecks s which (length list))) (auctionOf which) s list
+auctioned s which list = answered (auctionChecks s which (length list)) (auctionRefused s list) (auctionDone s (auctionFrom which) list)
 
 -- Theoretical answer: 1, 2, 4. The same four numbers with no change.
 abbrev pub theoreticalChecks : Session → ℕ → List Check
 theoreticalChecks s which = theoreticalRows (s .phase) which
 
-abbrev pub theoreticalAnswer : ℕ → AuctionMade → Session → Foreseen
-theoreticalAnswer (suc n) which s = record { answer = suc n; result = noAnswer }
-theoreticalAnswer zero AuctionMade.Refused s = record { answer = 1; result = noAnswer }
-theoreticalAnswer zero (AuctionMade.Good a) s = record { answer = 0; result = answerOf (outcomeOf s a) (part s a) }
+abbrev pub theoreticalRefused : ℕ → Foreseen
+theoreticalRefused n = record { answer = n; result = noAnswer }
+
+abbrev pub theoreticalDone : Session → Auction → Foreseen
+theoreticalDone s a = record { answer = 0; result = answerOf (outcomeOf s a) (part s a) }
 
 unfoldable pub theoretical : Session → ℕ → Foreseen
-theoretical s which = theoreticalAnswer (firstHit (theoreticalChecks s which)) (auctionOf which) s
+theoretical s which = answered (theoreticalChecks s which) theoreticalRefused (theoreticalDone s (auctionFrom which))

@@ -1,19 +1,17 @@
 -- What an order and a deletion change, from the parts of a session that decide it; and that this is what the calls leave.
-use Prim.Native.Nat.{ℕ, zero, suc, _+_, _/_, _%_, _<_}
-use mathlib.Core.Bool.{Bool, not}
+use Prim.Native.Nat.{ℕ, _+_, _/_, _%_, _<_}
+use mathlib.Core.Bool.{Bool, true, false, not, _&&_}
 use mathlib.Core.Logic.{_≢_}
 use mathlib.Core.Path.{_≡_, refl, sym, ap, _∙_}
 use mathlib.Core.List.{List}
 use native.Mathlib.Omega.{arith}
 use borrow.Author.Tests.{leb-false, eqb-false, not-false, ltb-true}
-use lib.Dec.{T}
 use lib.ListN.{getD, set}
-use Rattle.lists.specs.Tests.{test-holds}
 use Rattle.terms.specs.Bounds.{places, maxNumber}
-use Rattle.terms.specs.Kinds.{isPlace}
-use Rattle.terms.specs.Orders.{Resting, orderOf, isEntry}
-use Rattle.terms.specs.Made.{entry-asks}
-use Rattle.terms.specs.declared.orders.{OrderMade.OrderMade, Entry.Entry}
+use Rattle.terms.specs.Kinds.{isPlace, isNumber, isMember}
+use Rattle.terms.specs.Orders.{isEntry, orderFrom, restingAs}
+use Rattle.terms.specs.declared.kinds.{Price.Price}
+use Rattle.terms.specs.declared.orders.{Order.Order, Entry.Entry}
 use Rattle.terms.specs.declared.parameters.{Parameters.Parameters}
 use Rattle.places.specs.Places.{wordPlaces, lowestFree, countTaken, isFull, withBit, withoutBit, marked, unmarked}
 use Rattle.places.specs.Words.{lowest-free-room, full-none-free}
@@ -22,59 +20,48 @@ use Rattle.book.specs.Columns.{valuesOf, emptyValues, written, stored, cleared}
 use Rattle.book.specs.Resting.{placeOf, isOf, placeIn, place-in}
 use Rattle.book.specs.Rests.{any-resting}
 use Rattle.refusals.specs.declared.phases.{Phase.Phase}
-use Rattle.refusals.specs.Checks.{firstHit}
-use Rattle.refusals.specs.Rows.{orderRows, deleteRows}
-use Rattle.refusals.specs.Exactly.{none-hit}
+use Rattle.refusals.specs.Checks.{Check, firstHit, answered, answered-refused, answered-done, answered-cases, answered-map, hits, passes}
+use Rattle.refusals.specs.Rows.{orderRows, orderLater, deleteRows, deleteLater}
+use Rattle.refusals.specs.Exactly.{clear}
 use Rattle.session.specs.declared.{Session.Session, Entered.Entered, Deleted.Deleted}
 use Rattle.session.specs.declared.changes.{Change.Change, Effect.Effect}
-use Rattle.session.specs.Entry.{orderChecks, orderAnswer, entered, deleteChecks, deleteAnswer, deleted}
+use Rattle.session.specs.State.{withBook}
+use Rattle.session.specs.Entry.{controlReference, orderChecks, entered, deleteChecks, deleteRefused, deleteDone, deleted}
 
 -- a session with a change
 abbrev pub changed : Session → Change → Session
-changed s c = record {
-  phase = s .phase;
-  delayed = s .delayed;
-  parameters = s .parameters;
-  reference = s .reference;
-  given = c .given;
-  book = written (s .book) (set (s .book .taken) (c .place / wordPlaces) (c .word)) (c .place) (c .values);
-}
+changed s c = withBook s (c .given) (written (s .book) (set (s .book .taken) (c .place / wordPlaces) (c .word)) (c .place) (c .values))
 
--- a refusal in front of what is done otherwise
-abbrev pub effectOf : ℕ → Effect → Effect
-effectOf zero done = done
-effectOf (suc n) done = Effect.Refused (suc n)
-
-abbrev pub orderDone : OrderMade → ℕ → List ℕ → Effect
-orderDone (OrderMade.Good o) number taken = let place = lowestFree taken in Effect.Done (record {
+-- an order of this number at the lowest free place
+abbrev pub orderChange : ℕ → List ℕ → Order → Change
+orderChange number taken o = let place = lowestFree taken in record {
   given = number;
   place = place;
   word = withBit (place % wordPlaces) (getD taken (place / wordPlaces) 0);
-  values = valuesOf o;
-})
--- never
-orderDone OrderMade.Refused number taken = Effect.Refused 1
+  values = valuesOf (restingAs number o);
+}
 
-unfoldable pub orderEffect : Phase → Parameters → ℕ → ℕ → List ℕ → Entry → Effect
+unfoldable pub orderEffect : Phase → Parameters → Price → ℕ → List ℕ → Entry → Effect
 orderEffect phase p reference given taken e =
-    effectOf (firstHit (orderRows phase p reference given (isFull taken) e)) (orderDone (orderOf (given + 1) e) (given + 1) taken)
+    answered (orderRows phase p reference given (isFull taken) e) Effect.Refused (Effect.Done (orderChange (given + 1) taken (orderFrom e)))
 
-abbrev pub deleteDone : ℕ → List ℕ → ℕ → Effect
-deleteDone given taken place = Effect.Done (record {
+-- a place freed
+abbrev pub deleteChange : ℕ → List ℕ → ℕ → Change
+deleteChange given taken place = record {
   given = given;
   place = place;
   word = withoutBit (place % wordPlaces) (getD taken (place / wordPlaces) 0);
   values = emptyValues;
-})
+}
 
 -- of the order that stands at the place, or nowhere
 unfoldable pub deleteEffect : Phase → ℕ → List ℕ → ℕ → ℕ → ℕ → Effect
 deleteEffect phase given taken place number member =
-    effectOf (firstHit (deleteRows phase number member (not (isPlace place)))) (deleteDone given taken place)
+    answered (deleteRows phase number member (not (isPlace place))) Effect.Refused (Effect.Done (deleteChange given taken place))
 
 -- .. in a session
 abbrev pub orderIn : Session → Entry → Effect
-orderIn s e = orderEffect (s .phase) (s .parameters) (s .reference) (s .given) (s .book .taken) e
+orderIn s e = orderEffect (s .phase) (s .parameters) (controlReference s) (s .given) (s .book .taken) e
 
 abbrev pub deleteIn : Session → ℕ → ℕ → Effect
 deleteIn s number member = deleteEffect (s .phase) (s .given) (s .book .taken) (placeIn (s .book .taken) (s .book .number) (s .book .member) number member 0 places) number member
@@ -88,24 +75,10 @@ abbrev pub deletedBy : Session → Effect → Deleted
 deletedBy s (Effect.Refused n) = record { answer = n; session = s }
 deletedBy s (Effect.Done c) = record { answer = 0; session = changed s c }
 
--- ---- an order that is not refused: its fields are in range, a number is left, and a place
-module _ (phase : Phase) (p : Parameters) (reference given : ℕ) (taken : List ℕ) (e : Entry) (h : firstHit (orderRows phase p reference given (isFull taken) e) ≡ 0) where
-  pub in-range : T (isEntry e)
-  in-range = test-holds (isEntry e) (none-hit (orderRows phase p reference given (isFull taken) e) tt .0 h .0)
-
-  pub number-left : given < maxNumber
-  number-left = leb-false maxNumber given (none-hit (orderRows phase p reference given (isFull taken) e) tt .0 h .1 .1 .1 .1 .1 .1 .1 .0)
-
-  pub place-left : lowestFree taken < places
-  place-left = lowest-free-room taken (eqb-false (countTaken taken) places (none-hit (orderRows phase p reference given (isFull taken) e) tt .0 h .1 .1 .1 .1 .1 .1 .1 .1 .0))
-
 -- what an order does is what the call returns
 pub entered-by : (s : Session) (e : Entry) → enteredBy s (orderIn s e) ≡ entered s e
 unfolding entered orderEffect stored marked
-entered-by s e = go (firstHit (orderChecks s e)) refl where
-  go : (n : ℕ) → firstHit (orderChecks s e) ≡ n → enteredBy s (effectOf n (orderDone (orderOf (s .given + 1) e) (s .given + 1) (s .book .taken))) ≡ orderAnswer n s e
-  go zero h = rw (entry-asks (s .given + 1) e (in-range (s .phase) (s .parameters) (s .reference) (s .given) (s .book .taken) e h) .made)
-  go (suc n) h = refl
+entered-by s e = answered-map (enteredBy s) (orderChecks s e) Effect.Refused (Effect.Done (orderChange (s .given + 1) (s .book .taken) (orderFrom e)))
 
 -- .. and a deletion
 module _ (s : Session) (number member : ℕ) where
@@ -114,69 +87,82 @@ module _ (s : Session) (number member : ℕ) where
 
   pub deleted-by : deletedBy s (deleteIn s number member) ≡ deleted s number member
   unfolding deleted deleteEffect cleared unmarked
-  deleted-by = rw (delete-rows, place-in (s .book) number member) (go (firstHit (deleteChecks s number member))) where
-    go : (n : ℕ) → deletedBy s (effectOf n (deleteDone (s .given) (s .book .taken) (placeOf (isOf number member) (s .book)))) ≡ deleteAnswer n s number member
-    go zero = refl
-    go (suc n) = refl
+  deleted-by =
+      rw (delete-rows, place-in (s .book) number member)
+      (answered-map (deletedBy s) (deleteChecks s number member) Effect.Refused (Effect.Done (deleteChange (s .given) (s .book .taken) (placeOf (isOf number member) (s .book)))))
 
 -- ---- the effects from what the code learns on the way
-refused : (n : ℕ) (done : Effect) → n ≢ 0 → Effect.Refused n ≡ effectOf n done
-refused zero done h = absurd (h refl)
-refused (suc n) done h = refl
+-- a change is at a place, where every one that is done is
+placed : (checks : List Check) (done : Change) → (0 ≡ firstHit checks → done .place < places) → {c : Change} → answered checks Effect.Refused (Effect.Done done) ≡ Effect.Done c → c .place < places
+placed checks done here {c} =
+    answered-cases checks Effect.Refused (Effect.Done done) (λ (f : Effect). f ≡ Effect.Done c → c .place < places)
+    (λ n h e i. absurd (let z : _≡_ {A = ℕ} 0 1 = cc in omega arith))
+    (λ e i. let same : done .place ≡ c .place = ap placeOf′ i in rw (← same) (here e)) where
+      placeOf′ : Effect → ℕ
+      placeOf′ (Effect.Refused n) = 0
+      placeOf′ (Effect.Done c) = c .place
 
-module _ (phase : Phase) (p : Parameters) (reference given : ℕ) (taken : List ℕ) (e : Entry) where
-  -- a change is at a place
+-- an entry that is made an order passes check 1, and one that isn't hits it
+module _ (phase : Phase) (p : Parameters) (reference : Price) (given : ℕ) (taken : List ℕ) (e : Entry) where
+  abbrev rows : List Check
+  rows = orderRows phase p reference given (isFull taken) e
+
   pub order-place : {c : Change} → orderEffect phase p reference given taken e ≡ Effect.Done c → c .place < places
   unfolding orderEffect
-  order-place {c} = go (firstHit (orderRows phase p reference given (isFull taken) e)) refl (orderOf (given + 1) e) where
-    go : (n : ℕ) → firstHit (orderRows phase p reference given (isFull taken) e) ≡ n → (made : OrderMade) → effectOf n (orderDone made (given + 1) taken) ≡ Effect.Done c → c .place < places
-    go zero h (OrderMade.Good o) i = let same : lowestFree taken ≡ c .place = ap placeIn′ i in rw (← same) (place-left phase p reference given taken e h) where
-      placeIn′ : Effect → ℕ
-      placeIn′ (Effect.Refused n) = 0
-      placeIn′ (Effect.Done c) = c .place
-    go zero h OrderMade.Refused i = absurd (let z : _≡_ {A = ℕ} 0 1 = cc in omega arith)
-    go (suc n) h made i = absurd (let z : _≡_ {A = ℕ} 0 1 = cc in omega arith)
+  order-place = placed rows (orderChange (given + 1) taken (orderFrom e)) (λ h. lowest-free-room taken (eqb-false (countTaken taken) places (clear rows tt h 10)))
 
-  module _ {place n : ℕ} {left : Bool} (free : place ≡ lowestFree taken) (is-left : left ≡ isPlace place) (hit : n ≡ firstHit (orderRows phase p reference given (not left) e)) where
-    pub order-hit : n ≡ firstHit (orderRows phase p reference given (isFull taken) e)
-    order-hit = rw (is-left, free, full-none-free taken) at hit
+  pub order-out-of-range : isEntry e ≡ false → Effect.Refused 1 ≡ orderEffect phase p reference given taken e
+  unfolding orderEffect
+  order-out-of-range h = answered-refused rows Effect.Refused _ (hits 1 _ (rw h)) (λ z. omega arith)
+
+  module _ {o : Order} (good : (isEntry e ≡ true) × (o ≡ orderFrom e)) {place n : ℕ} {left : Bool} (free : place ≡ lowestFree taken) (is-left : left ≡ isPlace place)
+      (hit : n ≡ firstHit (orderLater phase p reference given (not left) o)) where
+    order-hit : n ≡ firstHit rows
+    order-hit = passes 1 _ (rw (good .0)) (rw (good .1, is-left, free, full-none-free taken) at hit)
 
     pub order-turned-down : n ≢ 0 → Effect.Refused n ≡ orderEffect phase p reference given taken e
     unfolding orderEffect
-    order-turned-down h = refused n _ h ∙ ap (λ (m : ℕ). effectOf m (orderDone (orderOf (given + 1) e) (given + 1) taken)) order-hit
+    order-turned-down h = answered-refused rows Effect.Refused _ order-hit h
 
-    pub order-done : n ≡ 0 → {o : Resting} {word : ℕ} {values : Values} → OrderMade.Good o ≡ orderOf (given + 1) e
-        → word ≡ withBit (place % wordPlaces) (getD taken (place / wordPlaces) 0) → values ≡ valuesOf o
-        → Effect.Done (record { given = given + 1; place = place; word = word; values = values }) ≡ orderEffect phase p reference given taken e
-    unfolding orderEffect
-    order-done z made bits same = rw (sym order-hit ∙ z, ← made, bits, free, same)
+    module _ (z : n ≡ 0) where
+      pub number-left : given < maxNumber
+      number-left = leb-false maxNumber given (clear rows tt (sym z ∙ order-hit) 9)
 
-    pub order-made : n ≡ 0 → OrderMade.Refused ≡ orderOf (given + 1) e → ⊥
-    order-made z i = let k = entry-asks (given + 1) e (in-range phase p reference given taken e (sym order-hit ∙ z)) .made in let y : _≡_ {A = ℕ} 0 1 = cc in omega arith
+      pub place-left : place < places
+      place-left = rw free (lowest-free-room taken (eqb-false (countTaken taken) places (clear rows tt (sym z ∙ order-hit) 10)))
+
+      pub order-done : {word : ℕ} {values : Values} → word ≡ withBit (place % wordPlaces) (getD taken (place / wordPlaces) 0) → values ≡ valuesOf (restingAs (given + 1) o)
+          → Effect.Done (record { given = given + 1; place = place; word = word; values = values }) ≡ orderEffect phase p reference given taken e
+      unfolding orderEffect
+      order-done bits same = rw (bits, free, same, good .1) (answered-done rows Effect.Refused (Effect.Done (orderChange (given + 1) taken (orderFrom e))) (sym z ∙ order-hit))
 
 module _ (phase : Phase) (given : ℕ) (taken : List ℕ) (place number member : ℕ) where
-  found : firstHit (deleteRows phase number member (not (isPlace place))) ≡ 0 → place < places
-  found h = ltb-true place places (not-false _ (none-hit (deleteRows phase number member (not (isPlace place))) tt .0 h .1 .1 .0))
+  abbrev deletions : List Check
+  deletions = deleteRows phase number member (not (isPlace place))
+
+  found : 0 ≡ firstHit deletions → place < places
+  found h = ltb-true place places (not-false _ (clear deletions tt h 11))
 
   pub delete-place : {c : Change} → deleteEffect phase given taken place number member ≡ Effect.Done c → c .place < places
   unfolding deleteEffect
-  delete-place {c} = go (firstHit (deleteRows phase number member (not (isPlace place)))) refl where
-    go : (n : ℕ) → firstHit (deleteRows phase number member (not (isPlace place))) ≡ n → effectOf n (deleteDone given taken place) ≡ Effect.Done c → c .place < places
-    go zero h i = let same : place ≡ c .place = ap placed i in rw (← same) (found h) where
-      placed : Effect → ℕ
-      placed (Effect.Refused n) = 0
-      placed (Effect.Done c) = c .place
-    go (suc n) h i = absurd (let z : _≡_ {A = ℕ} 0 1 = cc in omega arith)
+  delete-place = placed deletions (deleteChange given taken place) found
 
-  module _ {n : ℕ} (hit : n ≡ firstHit (deleteRows phase number member (not (isPlace place)))) where
+  pub delete-out-of-range : isNumber number && isMember member ≡ false → Effect.Refused 1 ≡ deleteEffect phase given taken place number member
+  unfolding deleteEffect
+  delete-out-of-range h = answered-refused deletions Effect.Refused _ (hits 1 _ (rw h)) (λ z. omega arith)
+
+  module _ (good : isNumber number && isMember member ≡ true) {n : ℕ} (hit : n ≡ firstHit (deleteLater phase (not (isPlace place)))) where
+    delete-hit : n ≡ firstHit deletions
+    delete-hit = passes 1 _ (rw good) hit
+
     pub delete-turned-down : n ≢ 0 → Effect.Refused n ≡ deleteEffect phase given taken place number member
     unfolding deleteEffect
-    delete-turned-down h = refused n (deleteDone given taken place) h ∙ ap (λ (m : ℕ). effectOf m (deleteDone given taken place)) hit
+    delete-turned-down h = answered-refused deletions Effect.Refused _ delete-hit h
 
     pub delete-room : n ≡ 0 → place < places
-    delete-room z = found (sym hit ∙ z)
+    delete-room z = found (sym z ∙ delete-hit)
 
     pub delete-done : n ≡ 0 → {word : ℕ} → word ≡ withoutBit (place % wordPlaces) (getD taken (place / wordPlaces) 0)
         → Effect.Done (record { given = given; place = place; word = word; values = emptyValues }) ≡ deleteEffect phase given taken place number member
     unfolding deleteEffect
-    delete-done z w = rw (sym hit ∙ z, w)
+    delete-done z w = rw w (answered-done deletions Effect.Refused (Effect.Done (deleteChange given taken place)) (sym z ∙ delete-hit))

@@ -1,4 +1,5 @@
 -- The session: what each of the seven calls returns and leaves.
+pub mod State
 pub mod Entry
 pub mod Auctions
 pub mod Queues
