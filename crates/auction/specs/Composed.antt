@@ -1,4 +1,4 @@
--- An auction as its functions compose it: what they find step by step is its outcome, its trades and what rests.
+-- An auction as its functions compose it: what they find step by step is its outcome, its trades and what they leave.
 use Prim.Native.Nat.{ℕ, zero, suc, _+_, _≤_, min}
 use mathlib.Core.Path.{_≡_}
 use mathlib.Core.List.{List, [], _∷_}
@@ -13,7 +13,7 @@ use Rattle.auction.specs.declared.{Outcome.Outcome}
 use Rattle.auction.specs.Outcome.{Held}
 use Rattle.auction.specs.Decided.{outcomeFrom}
 use Rattle.trades.specs.Fronts.{sharePairs, numbersLeft, sharesLeft, pairedShares}
-use Rattle.auction.specs.Trading.{sumsOf, sharesIn, outcomeIn, tradesIn, restsIn}
+use Rattle.auction.specs.Trading.{sumsOf, sharesIn, outcomeIn, tradesIn, leftIn}
 
 -- There are no more trades than shares.
 few-pairs : (k : ℕ) (bn bq sn sq : List ℕ) → length (sharePairs k bn bq sn sq) ≤ k
@@ -29,16 +29,16 @@ few-pairs (suc k) (b ∷ bn) (x ∷ bq) (s ∷ sn) (y ∷ sq) =
 pub few-trades : (numbers buys bought sells sold : List ℕ) → length (pairedShares numbers buys bought sells sold) ≤ length bought + length sold
 few-trades numbers buys bought sells sold = few-pairs (length bought + length sold) (along numbers buys) bought (along numbers sells) sold
 
--- Of shares found, the trades and the rests.
+-- Of shares found, the trades and what they leave.
 pub trades-composed : (quantity : ℕ) (numbers lefts buys sells bought sold : List ℕ) → bought ≡ sharesIn quantity lefts buys → sold ≡ sharesIn quantity lefts sells
     → pairedShares numbers buys bought sells sold ≡ tradesIn quantity numbers lefts buys sells
 unfolding tradesIn
 trades-composed quantity numbers lefts buys sells bought sold b s = rw (b, s)
 
-pub rests-composed : (quantity : ℕ) (lefts buys sells bought sold : List ℕ) → bought ≡ sharesIn quantity lefts buys → sold ≡ sharesIn quantity lefts sells
-    → lessened sells sold (lessened buys bought lefts) ≡ restsIn quantity lefts buys sells
-unfolding restsIn
-rests-composed quantity lefts buys sells bought sold b s = rw (b, s)
+pub left-composed : (quantity : ℕ) (lefts buys sells bought sold : List ℕ) → bought ≡ sharesIn quantity lefts buys → sold ≡ sharesIn quantity lefts sells
+    → lessened sells sold (lessened buys bought lefts) ≡ leftIn quantity lefts buys sells
+unfolding leftIn
+left-composed quantity lefts buys sells bought sold b s = rw (b, s)
 
 -- Of sums found, the outcome: by the search, and by the unlimited quantity of each side.
 pub outcome-composed : (held : Held) (threshold reference : ℕ) (limits lefts buys sells demands supplies : List ℕ) → demands ≡ sumsOf lefts buys → supplies ≡ sumsOf lefts sells

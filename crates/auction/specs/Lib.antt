@@ -2,7 +2,7 @@
 pub mod Outcome
 pub mod After
 pub mod Decided
-pub mod Settled
+pub mod Ended
 pub mod Trading
 pub mod Composed
 pub mod TradesIn

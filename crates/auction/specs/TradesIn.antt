@@ -15,10 +15,11 @@ use Rattle.terms.specs.Orders.{Resting}
 use Rattle.terms.specs.declared.orders.{Side.Side, Side.the-variants.Buy, Side.the-variants.Sell, Auction.Auction}
 use Rattle.book.specs.declared.Book.{Book}
 use Rattle.places.specs.Places.{isTaken}
-use Rattle.book.specs.Columns.{orderAt}
+use Rattle.book.specs.Columns.{valuesAt, orderAt}
 use Rattle.book.specs.Resting.{resting, changed}
 use Rattle.book.specs.Rests.{resting-elim}
 use Rattle.book.specs.Sound.{SoundBook}
+use Rattle.book.specs.Settling.{settled, restFrom, settled-changed}
 use Rattle.queue.specs.Part.{takingPart, takingPart-elim, takingPart-distinct}
 use Rattle.queue.specs.Sides.{sameSide-eq}
 use Rattle.queue.specs.Distinct.{Distinct}
@@ -34,8 +35,8 @@ use Rattle.trades.specs.Trades.{traded}
 use Rattle.trades.specs.Fills.{fills, tradesOf, trades-filled}
 use Rattle.auction.specs.After.{restOf}
 use Rattle.trades.specs.Fronts.{share-pairs}
-use Rattle.auction.specs.Settled.{settled, settled-changed}
-use Rattle.auction.specs.Trading.{ranksOn, sharesIn, tradesIn, restsIn}
+use Rattle.auction.specs.Ended.{ended-at, rest-from}
+use Rattle.auction.specs.Trading.{ranksOn, sharesIn, tradesIn, leftIn, restsIn}
 
 front-map : {A B : Type 0} (f : A → B) (n : ℕ) (xs : List A) → take n (map f xs) ≡ map f (take n xs)
 front-map f zero xs = refl
@@ -118,10 +119,10 @@ module _ (step given : ℕ) (b : Book) (sound : SoundBook step given b) (few : g
       distinct : Distinct part
       distinct = takingPart-distinct a (resting b) (resting-distinct step given b sound)
 
-      -- what rests at the place
-      rest-at : getD (restsIn quantity (b .left) (ranksOn b a Buy) (ranksOn b a Sell)) p 0 ≡ orderAt b p .left - traded (orderAt b p .side) (orderAt b p .number) (tradesOf quantity part)
-      unfolding restsIn
-      rest-at = go (orderAt b p .side) refl
+      -- what the trades leave at the place
+      left-at : getD (leftIn quantity (b .left) (ranksOn b a Buy) (ranksOn b a Sell)) p 0 ≡ orderAt b p .left - traded (orderAt b p .side) (orderAt b p .number) (tradesOf quantity part)
+      unfolding leftIn
+      left-at = go (orderAt b p .side) refl
         where
           bought : List ℕ
           bought = sharesIn quantity (b .left) (ranksOn b a Buy)
@@ -140,8 +141,18 @@ module _ (step given : ℕ) (b : Book) (sound : SoundBook step given b) (few : g
           go Buy e = omega (arith, both, shared-on quantity Buy, trades-filled price quantity part distinct enough Buy (orderAt b p .number), shared-on quantity Sell, other-fill quantity Sell (λ i. apart-sides (i ∙ e)))
           go Sell e = omega (arith, both, shared-on quantity Sell, trades-filled price quantity part distinct enough Sell (orderAt b p .number), shared-on quantity Buy, other-fill quantity Buy (λ i. apart-sides (sym (i ∙ e))))
 
+      left-long : length (leftIn quantity (b .left) (ranksOn b a Buy) (ranksOn b a Sell)) ≡ places
+      unfolding leftIn
+      left-long = lessened-length (ranksOn b a Sell) _ (lessened (ranksOn b a Buy) _ (b .left)) ∙ lessened-length (ranksOn b a Buy) _ (b .left) ∙ sound .sized .left
+
+      -- .. and what rests there
+      rest-at : restOf a (tradesOf quantity part) (orderAt b p) ≡ restFrom (getD (restsIn a quantity b (ranksOn b a Buy) (ranksOn b a Sell)) p 0) (valuesAt b p)
+      rest-at =
+          rest-from a (tradesOf quantity part) b p (getD (leftIn quantity (b .left) (ranksOn b a Buy) (ranksOn b a Sell)) p 0) left-at
+          ∙ ap (λ (n : ℕ). restFrom n (valuesAt b p)) (sym (ended-at a (b .validity) (leftIn quantity (b .left) (ranksOn b a Buy) (ranksOn b a Sell)) p here (omega (arith, left-long))))
+
   -- The book after them is the changed book.
   pub rests-in : (price quantity : ℕ) → ((s : Side) → quantity ≤ interest s price part)
-      → settled a (restsIn quantity (b .left) (ranksOn b a Buy) (ranksOn b a Sell)) b ≡ changed (restOf a (tradesOf quantity part)) b
+      → settled (restsIn a quantity b (ranksOn b a Buy) (ranksOn b a Sell)) b ≡ changed (restOf a (tradesOf quantity part)) b
   rests-in price quantity enough =
-      settled-changed step given a (tradesOf quantity part) (restsIn quantity (b .left) (ranksOn b a Buy) (ranksOn b a Sell)) b sound (λ p here taken. rest-at p here taken price quantity enough)
+      settled-changed step given (restOf a (tradesOf quantity part)) (restsIn a quantity b (ranksOn b a Buy) (ranksOn b a Sell)) b sound (λ p here taken. rest-at p here taken price quantity enough)

@@ -16,6 +16,7 @@ use Rattle.trades.specs.declared.{Trade.Trade}
 use Rattle.auction.specs.declared.{Outcome.Outcome}
 use Rattle.auction.specs.Outcome.{Held}
 use Rattle.auction.specs.Decided.{outcomeFrom}
+use Rattle.auction.specs.Ended.{ended}
 use Rattle.trades.specs.Fronts.{pairedShares}
 
 -- the ranks of those taking part on a side of a book, best first
@@ -42,8 +43,12 @@ outcomeIn held threshold reference limits lefts buys sells =
 unfoldable pub tradesIn : ℕ → List ℕ → List ℕ → List ℕ → List ℕ → List Trade
 tradesIn quantity numbers lefts buys sells = pairedShares numbers buys (sharesIn quantity lefts buys) sells (sharesIn quantity lefts sells)
 
-unfoldable pub restsIn : ℕ → List ℕ → List ℕ → List ℕ → List ℕ
-restsIn quantity lefts buys sells = lessened sells (sharesIn quantity lefts sells) (lessened buys (sharesIn quantity lefts buys) lefts)
+-- what the trades leave at each place of a book, and what rests there
+unfoldable pub leftIn : ℕ → List ℕ → List ℕ → List ℕ → List ℕ
+leftIn quantity lefts buys sells = lessened sells (sharesIn quantity lefts sells) (lessened buys (sharesIn quantity lefts buys) lefts)
+
+abbrev pub restsIn : Auction → ℕ → Book → List ℕ → List ℕ → List ℕ
+restsIn a quantity b buys sells = ended a (b .validity) (leftIn quantity (b .left) buys sells)
 
 -- there are no more ranks than places, and they ascend
 pub ranks-few : (b : Book) (a : Auction) (s : Side) → length (ranksOn b a s) ≤ places

@@ -1,45 +1,50 @@
-// After an auction: what is left of the orders, and which rests are deleted (01 "Outcomes").
-use book::Book;
-use places::WORD_PLACES;
+// After an auction: which rests are deleted (01 "Outcomes").
+use book::validity_from;
 use terms::Auction;
 use terms::Place;
 use terms::Validity;
 ghost use mathlib.Core.Path.{_≡_};
-ghost use Rattle.auction.specs.Settled.{endsAs, settled as Settled·settled};
+ghost use Rattle.auction.specs.After.{ends as After·ends};
+ghost use Rattle.auction.specs.Ended.{restWith, ended};
 
-// Rests with this validity, as the column holds it, are deleted: after opening 1, after closing 1, 2 and 3.
-fn ends(auction: Auction, validity: u8) -> bool
-    ensures { λ r. ⌜ r ≡ endsAs auction validity ⌝ }
+// Rests with this validity are deleted: after opening 1, after closing 1, 2 and 3.
+fn ends(auction: Auction, validity: Validity) -> bool
+    ensures { λ r. ⌜ r ≡ After·ends auction validity ⌝ }
 {
     match auction {
-        Auction::Opening => validity == Validity::AT_OPENING,
-        Auction::Closing => validity != Validity::LATER_DAY,
+        Auction::Opening => match validity {
+            Validity::AtOpening => true,
+            Validity::AtClose => false,
+            Validity::Day => false,
+            Validity::LaterDay => false,
+        },
+        Auction::Closing => match validity {
+            Validity::AtOpening => true,
+            Validity::AtClose => true,
+            Validity::Day => true,
+            Validity::LaterDay => false,
+        },
     }
 }
 
-// The book with what rests of each order: gone where that is nothing or its validity ends, and else at its own place.
-pub fn settled(mut b: Book, auction: Auction, rests: &[u32; Place::COUNT]) -> Book
-    ensures { λ r. ⌜ r ≡ Settled·settled auction (now (rests .entry)) b ⌝ }
+// What rests of an order of this validity, as the column holds it.
+fn rest_with(auction: Auction, validity: u8, left: u32) -> u32
+    ensures { λ r. ⌜ r ≡ restWith auction validity left ⌝ }
+{
+    if ends(auction, validity_from(validity)) {
+        0
+    } else {
+        left
+    }
+}
+
+// What is left at each place becomes what rests there. The loop does nothing else, so that the compiler takes several at a time.
+pub fn end_rests(lefts: &mut [u32; Place::COUNT], auction: Auction, validities: &[u8; Place::COUNT])
+    ensures { λ _. ⌜ now (lefts .exit) ≡ ended auction (now (validities .entry)) (now (lefts .entry)) ⌝ }
 {
     let mut place: usize = 0;
     while place < Place::COUNT {
-        let word = b.taken[place / WORD_PLACES];
-        if places::bit_of(word, place % WORD_PLACES) == 1 {
-            let rest = rests[place];
-            if (rest == 0) | ends(auction, b.validity[place]) {
-                let taken = b.taken;
-                b.taken = places::unmarked(taken, place);
-                b.number[place] = 0;
-                b.member[place] = 0;
-                b.side[place] = 0;
-                b.validity[place] = 0;
-                b.left[place] = 0;
-                b.limit[place] = 0;
-            } else {
-                b.left[place] = rest;
-            }
-        }
+        lefts[place] = rest_with(auction, validities[place], lefts[place]);
         place += 1;
     }
-    b
 }

@@ -1,9 +1,10 @@
 // An auction as a whole, below the session: its outcome, and what it does to the book and to the lent list. Queues are given by
 // their ranks, best first.
 use crate::Outcome;
-use crate::after::settled;
+use crate::after::end_rests;
 use crate::decide::outcome_of;
 use book::Book;
+use book::settled;
 use terms::Auction;
 use terms::Limit;
 use terms::Place;
@@ -15,7 +16,7 @@ ghost use Prim.Native.Nat.{_*_, _≤_};
 ghost use lib.Dec.{leb};
 ghost use lib.ListN.{length, drop};
 ghost use Rattle.lists.specs.Ranking.{Ranked};
-ghost use Rattle.auction.specs.Settled.{settled as Settled·settled};
+ghost use Rattle.book.specs.Settling.{settled as Settling·settled};
 ghost use Rattle.trades.specs.Written.{quadruples};
 ghost use Rattle.auction.specs.Trading.{outcomeIn, tradesIn, restsIn};
 ghost use Rattle.terms.specs.Bounds.{places};
@@ -106,7 +107,7 @@ pub fn traded<'a>(
     list: &mut [u32],
 ) -> Closed
     requires { ⌜ (length (now buys) ≤ places) × (length (now sells) ≤ places) ⌝ }
-    ensures { λ r. ⌜ (r .count ≡ length (tradesIn quantity (b .number) (b .left) (now (buys .entry)) (now (sells .entry)))) × (r .book ≡ Settled·settled auction (restsIn quantity (b .left) (now (buys .entry)) (now (sells .entry))) b) × (4 * r .count ≤ length (now (list .entry)) → now (list .exit) ≡ quadruples price (tradesIn quantity (b .number) (b .left) (now (buys .entry)) (now (sells .entry))) ++ drop (4 * r .count) (now (list .entry))) ⌝ }
+    ensures { λ r. ⌜ (r .count ≡ length (tradesIn quantity (b .number) (b .left) (now (buys .entry)) (now (sells .entry)))) × (r .book ≡ Settling·settled (restsIn auction quantity b (now (buys .entry)) (now (sells .entry))) b) × (4 * r .count ≤ length (now (list .entry)) → now (list .exit) ≡ quadruples price (tradesIn quantity (b .number) (b .left) (now (buys .entry)) (now (sells .entry))) ++ drop (4 * r .count) (now (list .entry))) ⌝ }
 {
     let mut bought = [0u32; Place::COUNT];
     let mut sold = [0u32; Place::COUNT];
@@ -124,7 +125,8 @@ pub fn traded<'a>(
     let mut rests = b.left;
     fills::lessen(&mut rests, buys, &bought[..bids]);
     fills::lessen(&mut rests, sells, &sold[..asks]);
-    let book = settled(b, auction, &rests);
+    end_rests(&mut rests, auction, &b.validity);
+    let book = settled(b, &rests);
     Closed {
         book,
         count: count as u32,

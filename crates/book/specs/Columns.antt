@@ -43,6 +43,10 @@ orderFrom r = record {
 abbrev pub orderAt : Book → ℕ → Resting
 orderAt b place = orderFrom (valuesAt b place)
 
+-- .. with another open quantity
+abbrev pub withLeft : Values → ℕ → Values
+withLeft r left = record { number = r .number; member = r .member; side = r .side; validity = r .validity; left = left; limit = r .limit }
+
 -- the empty values
 abbrev pub emptyValues : Values
 emptyValues = record { number = 0; member = 0; side = 0; validity = 0; left = 0; limit = 0 }

@@ -8,3 +8,4 @@ pub mod Sound
 pub mod Hints
 pub mod Additions
 pub mod Changed
+pub mod Settling

@@ -6,29 +6,18 @@ use places::WORDS;
 use places::bit_of;
 use terms::Order;
 use terms::Place;
-use terms::Side;
 use terms::Validity;
 ghost use mathlib.Core.Path.{_≡_};
 ghost use Prim.Native.Nat.{_<_, _≤_, _+_};
 ghost use lib.ListN.{set};
-ghost use Rattle.book.specs.Columns.{valuesOf, emptyBook};
+ghost use Rattle.book.specs.Columns.{valuesOf, emptyValues, emptyBook};
 ghost use Rattle.book.specs.Groups.{hasNumber};
 ghost use Rattle.book.specs.Resting.{placeIn};
 ghost use Rattle.terms.specs.Bounds.{places};
-ghost use Rattle.terms.specs.Orders.{sideFrom, validityFrom, restingAs};
+ghost use Rattle.terms.specs.Orders.{validityFrom, restingAs};
 
-// Sides and validities stand under their numbers of 01.
-fn side_from(x: u8) -> Side
-    ensures { λ r. ⌜ r ≡ sideFrom x ⌝ }
-{
-    if x == Side::BUY {
-        Side::Buy
-    } else {
-        Side::Sell
-    }
-}
-
-fn validity_from(x: u8) -> Validity
+// A validity stands under its number of 01.
+pub fn validity_from(x: u8) -> Validity
     ensures { λ r. ⌜ r ≡ validityFrom x ⌝ }
 {
     match x {
@@ -53,6 +42,22 @@ pub fn values_of(number: u32, o: Order) -> Values
         validity: validity.number(),
         left: o.quantity.number(),
         limit: limit.number(),
+    }
+}
+
+impl Values {
+    // Those of a free place.
+    pub fn empty() -> Values
+        ensures { λ r. ⌜ r ≡ emptyValues ⌝ }
+    {
+        Values {
+            number: 0,
+            left: 0,
+            limit: 0,
+            member: 0,
+            side: 0,
+            validity: 0,
+        }
     }
 }
 

@@ -2,17 +2,20 @@
 // (01 "Numbers and their bounds"). A free place holds the empty value 0 in every column.
 mod columns;
 mod hints;
+mod settling;
 
 pub use columns::place_of;
 pub use columns::put8;
 pub use columns::put16;
 pub use columns::put32;
+pub use columns::validity_from;
 pub use columns::values_of;
 pub use hints::HINTS;
 pub use hints::hint;
 pub use hints::hint_all;
 pub use hints::place_by_hint;
 use places::WORDS;
+pub use settling::settled;
 use terms::Place;
 
 pub struct Book {

@@ -33,8 +33,7 @@ use Rattle.trades.specs.Trades.{party, traded, volume, TradeList}
 use Rattle.trades.specs.Pairing.{amount, paired}
 use Rattle.trades.specs.Fills.{fills, tradesOf, trades-none}
 use Rattle.auction.specs.Outcome.{trades, outcomeNumber, priceAnswered, quantityAnswered, takesPlace}
-use Rattle.auction.specs.After.{remaining, ends, leaves, restOf}
-use Rattle.auction.specs.Settled.{rest-keeps}
+use Rattle.auction.specs.After.{remaining, ends, leaves, restOf, rest-keeps}
 use Rattle.trades.specs.Written.{quadruples, quadruples-length, tradesRead, trades-back}
 use Rattle.session.specs.declared.{Session.Session}
 use Rattle.session.specs.Sound.{Sound}

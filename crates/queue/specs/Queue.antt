@@ -13,8 +13,8 @@ use Rattle.lists.specs.Choice.{keep}
 use Rattle.lists.specs.Ranking.{rank, rank-elim, Agreeing, rank-map}
 use Rattle.terms.specs.Bounds.{places, maxPrice, maxNumber}
 use Rattle.terms.specs.Kinds.{isPrice, isMultiple}
-use Rattle.terms.specs.Orders.{Resting, sideNumber, validityNumber, limitFrom, isLegal, sideFrom, validityFrom}
-use Rattle.terms.specs.declared.orders.{Side.Side, Side.the-variants.Buy, Side.the-variants.Sell, Auction.Auction, Auction.the-variants.Opening, Auction.the-variants.Closing, Validity.Validity, Validity.the-variants.AtOpening, Validity.the-variants.AtClose, Validity.the-variants.Day, Validity.the-variants.LaterDay}
+use Rattle.terms.specs.Orders.{Resting, sideNumber, sideFrom, validityFrom, limitFrom, isLegal}
+use Rattle.terms.specs.declared.orders.{Side.Side, Side.the-variants.Buy, Side.the-variants.Sell, Auction.Auction}
 use Rattle.book.specs.declared.Book.{Book}
 use Rattle.places.specs.Places.{isTaken}
 use Rattle.book.specs.Columns.{orderAt}
@@ -24,7 +24,7 @@ use Rattle.book.specs.Sound.{SoundBook}
 use Rattle.queue.specs.Sides.{sameSide, allows, isUnlimited}
 use Rattle.queue.specs.Part.{takesPart, takingPart}
 use Rattle.queue.specs.Rank.{ahead, onSide, ranked}
-use Rattle.queue.specs.Ranks.{limitRoom, rankOf, rankBound, placeOfRank, takesPartAs, standsAs, ranksFrom}
+use Rattle.queue.specs.Ranks.{limitRoom, rankOf, rankBound, placeOfRank, standsAs, ranksFrom}
 use Rattle.queue.specs.Keys.{rank-place, rank-ahead, rank-allows, rank-unlimited}
 
 -- the orders that rest at n places from one on, by place
@@ -41,22 +41,15 @@ resting-from : (b : Book) (n : ℕ) → restingFrom b 0 n ≡ restingTo b n
 unfolding restingTo
 resting-from b n = resting-on b 0 n n (omega arith)
 
--- sides and validities under their numbers
+-- sides under their numbers
 number-side : (s t : Side) → eqb (sideNumber t) (sideNumber s) ≡ sameSide s t
 number-side Buy Buy = refl
 number-side Buy Sell = refl
 number-side Sell Buy = refl
 number-side Sell Sell = refl
 
-number-part : (a : Auction) (v : Validity) → takesPartAs a (validityNumber v) ≡ takesPart a v
-number-part Opening AtOpening = refl
-number-part Opening AtClose = refl
-number-part Opening Day = refl
-number-part Opening LaterDay = refl
-number-part Closing v = refl
-
-coded-stands : (s : Side) (a : Auction) (x y : ℕ) → sideNumber (sideFrom x) ≡ x → validityNumber (validityFrom y) ≡ y → standsAs s a x y ≡ (sameSide s (sideFrom x) && takesPart a (validityFrom y))
-coded-stands s a x y e f = rw (← number-side s (sideFrom x), ← number-part a (validityFrom y), e, f)
+coded-stands : (s : Side) (a : Auction) (x y : ℕ) → sideNumber (sideFrom x) ≡ x → standsAs s a x y ≡ (sameSide s (sideFrom x) && takesPart a (validityFrom y))
+coded-stands s a x y e = rw (← number-side s (sideFrom x), e)
 
 zero-stands : (s : Side) (a : Auction) (y : ℕ) → standsAs s a 0 y ≡ false
 zero-stands Buy a y = refl
@@ -130,7 +123,7 @@ module _ (step given : ℕ) (b : Book) (sound : SoundBook step given b) (enough 
     taken-stands : (p : ℕ) → p < places → isTaken (b .taken) p ≡ true → stands p ≡ (onSide s (orderAt b p) && part (orderAt b p))
     taken-stands p here taken =
         let e = sound .each p here .coded taken in
-        coded-stands s a (getD (b .side) p 0) (getD (b .validity) p 0) (ap (λ (r : Values). r .side) e) (ap (λ (r : Values). r .validity) e)
+        coded-stands s a (getD (b .side) p 0) (getD (b .validity) p 0) (ap (λ (r : Values). r .side) e)
 
     free-stands : (p : ℕ) → p < places → isTaken (b .taken) p ≡ false → stands p ≡ false
     free-stands p here free = ap (λ (x : ℕ). standsAs s a x (getD (b .validity) p 0)) (ap (λ (r : Values). r .side) (sound .each p here .free free)) ∙ zero-stands s a (getD (b .validity) p 0)

@@ -162,7 +162,7 @@ module _ (phase : Phase) (given : ℕ) (taken : List ℕ) (place number member :
     pub delete-room : n ≡ 0 → place < places
     delete-room z = found (sym z ∙ delete-hit)
 
-    pub delete-done : n ≡ 0 → {word : ℕ} → word ≡ withoutBit (place % wordPlaces) (getD taken (place / wordPlaces) 0)
-        → Effect.Done (record { given = given; place = place; word = word; values = emptyValues }) ≡ deleteEffect phase given taken place number member
+    pub delete-done : n ≡ 0 → {word : ℕ} → word ≡ withoutBit (place % wordPlaces) (getD taken (place / wordPlaces) 0) → {values : Values} → values ≡ emptyValues
+        → Effect.Done (record { given = given; place = place; word = word; values = values }) ≡ deleteEffect phase given taken place number member
     unfolding deleteEffect
-    delete-done z w = rw w (answered-done deletions Effect.Refused (Effect.Done (deleteChange given taken place)) (sym z ∙ delete-hit))
+    delete-done z w v = rw (w, v) (answered-done deletions Effect.Refused (Effect.Done (deleteChange given taken place)) (sym z ∙ delete-hit))

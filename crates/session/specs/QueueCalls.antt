@@ -1,63 +1,71 @@
--- The ranked queue from what its code learns on the way, for the promise of `ranked`.
-use Prim.Native.Nat.{ℕ, zero, suc, _≤_}
-use mathlib.Core.Bool.{Bool, true, false, true≢false, not, _&&_}
+-- The ranked queue and the filled front from what their code learns on the way, for the promises of `ranked` and `filled_front`.
+use Prim.Native.Nat.{ℕ, _≤_}
+use mathlib.Core.Bool.{Bool, true, false, not, _&&_, _||_}
 use mathlib.Core.Logic.{_≢_}
-use mathlib.Core.Path.{_≡_, refl, sym, ap, _∙_}
-use mathlib.Core.List.{List, map, map-map, _++_}
+use mathlib.Core.Path.{_≡_, sym, ap, _∙_}
+use mathlib.Core.List.{List, [], map, map-map, _++_}
 use native.Mathlib.Omega.{arith}
 use borrow.Author.Tests.{ltb-false}
-use lib.Dec.{T}
-use lib.ListN.{length, drop, length-map}
+use lib.Dec.{ltb}
+use lib.ListN.{length, take, drop, length-map}
 use Rattle.terms.specs.Bounds.{places}
-use Rattle.terms.specs.Orders.{Resting, isSide, isAuction, sideOf, auctionOf}
-use Rattle.terms.specs.Made.{side-made, auction-made}
-use Rattle.terms.specs.declared.orders.{Side.Side, SideMade.SideMade, Auction.Auction, AuctionMade.AuctionMade}
+use Rattle.terms.specs.Orders.{Resting, isSide, isAuction, sideFrom, auctionFrom}
+use Rattle.terms.specs.declared.orders.{Side.Side, Auction.Auction}
 use Rattle.book.specs.Columns.{orderAt}
 use Rattle.queue.specs.Ranks.{placeOfRank, along}
 use Rattle.queue.specs.Rank.{ranked}
+use Rattle.fills.specs.Front.{front, front-longest}
+use Rattle.refusals.specs.Checks.{Check, firstHit, answered-refused, answered-done, hits, passes, passes-last}
+use Rattle.refusals.specs.Rows.{rankedLater}
+use Rattle.refusals.specs.Exactly.{clear}
 use Rattle.session.specs.declared.{Session.Session}
-use Rattle.refusals.specs.Checks.{firstHit}
-use Rattle.refusals.specs.Exactly.{none-hit}
 use Rattle.session.specs.Auctions.{part}
-use Rattle.session.specs.Queues.{rankedChecks, queueLeaves, queueRefused, rankedNumbers, rankedAnswer, queued}
-
--- where the ranked queue is not refused, the side and the auction are ones
-queue-asked : (s : Session) (side which size : ℕ) → firstHit (rankedChecks s side which size) ≡ 0 → T (isSide side) × T (isAuction which)
-queue-asked s side which size h = both (isSide side) (isAuction which) (none-hit (rankedChecks s side which size) tt .0 h .0)
-  where
-    both : (a b : Bool) → not (a && b) ≡ false → T a × T b
-    both true true e = (tt, tt)
-    both true false e = absurd (true≢false e)
-    both false b e = absurd (true≢false e)
-
-pub queue-made : (s : Session) (side which size : ℕ) → firstHit (rankedChecks s side which size) ≡ 0
-    → ((on : Side) × (sideOf side ≡ SideMade.Good on)) × ((a : Auction) × (auctionOf which ≡ AuctionMade.Good a))
-queue-made s side which size h = let (i, j) = queue-asked s side which size h in (side-made side i, auction-made which j)
+use Rattle.session.specs.Queues.{rankedChecks, queueLeaves, queueRefused, queueDone, rankedNumbers, queued, frontChecks, frontAnswered, frontRefused, frontDone, listOf, filledFront}
 
 module _ (s : Session) (side which : ℕ) (list : List ℕ) where
-  refused : (n : ℕ) (on : SideMade) (a : AuctionMade) → n ≢ 0 → rankedAnswer n on a s list ≡ queueRefused n list
-  refused zero on a h = absurd (h refl)
-  refused (suc n) on a h = refl
+  abbrev checks : List Check
+  checks = rankedChecks s side which (length list)
 
-  pub queue-turned-down : {n : ℕ} → n ≡ firstHit (rankedChecks s side which (length list)) → n ≢ 0 → queueRefused n list ≡ queued s side which list
+  pub queue-out-of-range : isSide side && isAuction which ≡ false → queueRefused list 1 ≡ queued s side which list
   unfolding queued
-  queue-turned-down {n} h k = sym (refused n (sideOf side) (auctionOf which) k) ∙ ap (λ (m : ℕ). rankedAnswer m (sideOf side) (auctionOf which) s list) h
+  queue-out-of-range h = answered-refused checks (queueRefused list) _ (hits 1 _ (rw h)) (λ z. omega arith)
 
-  module _ (h : firstHit (rankedChecks s side which (length list)) ≡ 0) where
-    pub queue-sided : {r : SideMade} → r ≡ sideOf side → r ≡ SideMade.Refused → ⊥
-    queue-sided i j = let (on, k) = queue-made s side which (length list) h .0 in let z : _≡_ {A = ℕ} 0 1 = cc in omega arith
+  module _ {on : Side} {a : Auction} (sided : (isSide side ≡ true) × (on ≡ sideFrom side)) (called : (isAuction which ≡ true) × (a ≡ auctionFrom which))
+      {n : ℕ} (hit : n ≡ firstHit (rankedLater (s .phase) (length list))) where
+    queue-hit : n ≡ firstHit checks
+    queue-hit = passes 1 _ (rw (sided .0, called .0)) hit
 
-    pub queue-called : {r : AuctionMade} → r ≡ auctionOf which → r ≡ AuctionMade.Refused → ⊥
-    queue-called i j = let (a, k) = queue-made s side which (length list) h .1 in let z : _≡_ {A = ℕ} 0 1 = cc in omega arith
-
-    pub queue-room : places ≤ length list
-    queue-room = ltb-false (length list) places (none-hit (rankedChecks s side which (length list)) tt .0 h .1 .1 .0)
-
-    pub queue-listed : (on : Side) (a : Auction) → sideOf side ≡ SideMade.Good on → auctionOf which ≡ AuctionMade.Good a → (ranks : List ℕ)
-        → map (λ r. orderAt (s .book) (placeOfRank r)) ranks ≡ ranked on (part s a)
-        → queueLeaves (record { answer = 0; count = length ranks }) (along (s .book .number) ranks ++ drop (length ranks) list) ≡ queued s side which list
+    pub queue-turned-down : n ≢ 0 → queueRefused list n ≡ queued s side which list
     unfolding queued
-    queue-listed on a i j ranks e = rw (h, i, j, ← numbers, length-map ranks (λ r. orderAt (s .book) (placeOfRank r) .number))
-      where
-        numbers : along (s .book .number) ranks ≡ rankedNumbers s on a
-        numbers = sym (map-map (λ (o : Resting). o .number) (λ r. orderAt (s .book) (placeOfRank r)) ranks) ∙ ap (map (λ (o : Resting). o .number)) e
+    queue-turned-down h = answered-refused checks (queueRefused list) _ queue-hit h
+
+    module _ (z : n ≡ 0) where
+      pub queue-room : places ≤ length list
+      queue-room = ltb-false (length list) places (clear checks tt (sym z ∙ queue-hit) 12)
+
+      pub queue-listed : (ranks : List ℕ) → map (λ r. orderAt (s .book) (placeOfRank r)) ranks ≡ ranked on (part s a)
+          → queueLeaves (record { answer = 0; count = length ranks }) (along (s .book .number) ranks ++ drop (length ranks) list) ≡ queued s side which list
+      unfolding queued
+      queue-listed ranks e =
+          rw (← length-map ranks (λ r. orderAt (s .book) (placeOfRank r) .number), numbers)
+          (answered-done checks (queueRefused list) (queueDone list (rankedNumbers s (sideFrom side) (auctionFrom which))) (sym z ∙ queue-hit))
+        where
+          numbers : along (s .book .number) ranks ≡ rankedNumbers s (sideFrom side) (auctionFrom which)
+          numbers =
+              sym (map-map (λ (o : Resting). o .number) (λ r. orderAt (s .book) (placeOfRank r)) ranks)
+              ∙ ap (map (λ (o : Resting). o .number)) (rw (sided .1, called .1) at e)
+
+module _ (buys sells : List ℕ) (side total : ℕ) where
+  abbrev fronts : List Check
+  fronts = frontChecks buys sells side
+
+  pub front-turned-down : not (isSide side) || ltb places (length buys) || ltb places (length sells) ≡ true → frontAnswered 1 [] ≡ filledFront buys sells side total
+  unfolding filledFront
+  front-turned-down h = answered-refused fronts frontRefused _ (hits 1 _ h) (λ z. omega arith)
+
+  pub front-found : {on : Side} → (isSide side ≡ true) × (on ≡ sideFrom side) → ltb places (length buys) || ltb places (length sells) ≡ false
+      → {k : ℕ} → k ≡ length (front total (listOf on buys sells)) → frontAnswered 0 (take k (listOf on buys sells)) ≡ filledFront buys sells side total
+  unfolding filledFront
+  front-found {on} sided fit e =
+      rw (e, ← front-longest total (listOf on buys sells) .is-front, sided .1)
+      (answered-done fronts frontRefused (frontDone (sideFrom side) buys sells total) (passes-last 1 (rw (sided .0) fit)))

@@ -6,20 +6,20 @@ use auction::Outcome;
 use refusals::phase_after;
 use terms::Auction;
 use terms::Place;
+use terms::Price;
 use terms::Side;
 ghost use mathlib.Core.Path.{_≡_};
 ghost use mathlib.Core.List.{_++_};
 ghost use Prim.Native.Nat.{_*_, _≤_};
-ghost use lib.Dec.{T};
 ghost use lib.ListN.{length, take, drop};
 ghost use Rattle.terms.specs.Bounds.{tradeListLength, places};
 ghost use Rattle.terms.specs.declared.orders.{Side.the-variants.Buy, Side.the-variants.Sell};
 ghost use Rattle.auction.specs.Trading.{ranksOn};
 ghost use Rattle.trades.specs.Written.{quadruples};
-ghost use Rattle.refusals.specs.Phases.{hasStarted};
-ghost use Rattle.session.specs.Auctions.{preventable as Auctions·preventable, delayable as Auctions·delayable, part, outcomeOf, answerOf, delayGiven, noAnswer, auctionLeaves, auctionDone};
+ghost use Rattle.session.specs.Auctions.{preventable as Auctions·preventable, delayable as Auctions·delayable, part, outcomeOf, answerOf, noAnswer, auctionLeaves, auctionDone};
 ghost use Rattle.session.specs.AuctionCalls.{answerWith, tradesBy, closedBy};
 ghost use Rattle.session.specs.Sound.{Sound};
+ghost use Rattle.session.specs.State.{delayGiven};
 
 // The outcome at this moment, and how many take part on each side.
 pub struct Outlook {
@@ -100,7 +100,7 @@ fn delayable(auction: Auction, delayed: bool) -> bool
 impl Session {
     // The outcome at this moment; the ranks of both sides go to the two lists.
     pub(crate) fn outlook(self, auction: Auction, buys: &mut [u64], sells: &mut [u64]) -> Outlook
-        requires { ⌜ Sound self × T (hasStarted (self .phase)) × (places ≤ length (now buys)) × (places ≤ length (now sells)) ⌝ }
+        requires { ⌜ Sound self × (places ≤ length (now buys)) × (places ≤ length (now sells)) ⌝ }
         ensures { λ r. ⌜ (r .outcome ≡ outcomeOf self auction) × (r .bids ≤ places) × (take (r .bids) (now (buys .exit)) ≡ ranksOn (self .book) auction Buy) × (r .asks ≤ places) × (take (r .asks) (now (sells .exit)) ≡ ranksOn (self .book) auction Sell) ⌝ }
     {
         let bids = queue::ranked(
@@ -125,8 +125,8 @@ impl Session {
         let outcome = auction::outcome_now(
             preventable(auction),
             delayable(auction, self.delayed),
-            parameters.threshold,
-            self.reference,
+            parameters.threshold.number(),
+            self.reference.number(),
             &self.book.limit,
             &self.book.left,
             &buys[..bids],
@@ -143,7 +143,7 @@ impl Session {
     fn closed<'a>(
         self,
         auction: Auction,
-        reference: u32,
+        reference: Price,
         price: u32,
         quantity: u64,
         buys: &'a [u64],
@@ -193,7 +193,8 @@ impl Session {
     {
         match outcome {
             Outcome::Traded { price, quantity } => {
-                let close = self.closed(auction, price, price, quantity, buys, sells, list);
+                let reference = Price::known(price);
+                let close = self.closed(auction, reference, price, quantity, buys, sells, list);
                 let session = close.session;
                 Auctioned {
                     answer: 0,
@@ -225,7 +226,7 @@ impl Session {
 
     // The four numbers that the auction would answer at this moment.
     pub(crate) fn foreseen(self, auction: Auction) -> AuctionAnswer
-        requires { ⌜ Sound self × T (hasStarted (self .phase)) ⌝ }
+        requires { ⌜ Sound self ⌝ }
         ensures { λ r. ⌜ r ≡ answerOf (outcomeOf self auction) (part self auction) ⌝ }
     {
         let mut buys = [0u64; Place::COUNT];

@@ -11,10 +11,15 @@ use places::with_bit;
 use places::without_bit;
 use refusals::Phase;
 use terms::Entry;
+use terms::Member;
+use terms::MemberMade;
+use terms::Number;
+use terms::NumberMade;
 use terms::Order;
 use terms::OrderMade;
 use terms::Parameters;
 use terms::Place;
+use terms::Price;
 ghost use mathlib.Core.Path.{_≡_};
 ghost use Prim.Native.Nat.{_<_};
 ghost use Rattle.terms.specs.Bounds.{places};
@@ -37,36 +42,29 @@ pub enum Effect {
 pub fn order_effect(
     phase: Phase,
     parameters: Parameters,
-    reference: u32,
+    reference: Price,
     given: u32,
     taken: &[u64; WORDS],
     e: Entry,
 ) -> Effect
     ensures { λ r. ⌜ r ≡ orderEffect phase parameters reference given (now (taken .entry)) e ⌝ }
 {
+    let OrderMade::Good(o) = Order::new(e) else {
+        return Effect::Refused(1);
+    };
     let place = places::lowest_free(taken);
-    let answer = refusals::order_refusal(
-        phase,
-        parameters,
-        reference,
-        given,
-        !Place::holds(place),
-        e,
-    );
+    let left = Place::holds(place);
+    let answer = refusals::order_refusal(phase, parameters, reference, given, !left, o);
     if answer != 0 {
         return Effect::Refused(answer);
     }
     let number = given + 1;
-    let OrderMade::Good(o) = Order::new(number, e) else {
-        // Never: an entry that is not refused has its fields in range.
-        return Effect::Refused(1);
-    };
     let word = with_bit(taken[place / WORD_PLACES], place % WORD_PLACES);
     Effect::Done(Change {
         given: number,
         place,
         word,
-        values: book::values_of(o),
+        values: book::values_of(number, o),
     })
 }
 
@@ -81,7 +79,13 @@ pub fn delete_effect(
 ) -> Effect
     ensures { λ r. ⌜ r ≡ deleteEffect phase given (now (taken .entry)) place number member ⌝ }
 {
-    let answer = refusals::delete_refusal(phase, number, member, place);
+    let NumberMade::Good(_) = Number::new(number) else {
+        return Effect::Refused(1);
+    };
+    let MemberMade::Good(_) = Member::new(member) else {
+        return Effect::Refused(1);
+    };
+    let answer = refusals::delete_refusal(phase, place);
     if answer != 0 {
         return Effect::Refused(answer);
     }
@@ -90,14 +94,7 @@ pub fn delete_effect(
         given,
         place,
         word,
-        values: Values {
-            number: 0,
-            member: 0,
-            side: 0,
-            validity: 0,
-            left: 0,
-            limit: 0,
-        },
+        values: Values::empty(),
     })
 }
 

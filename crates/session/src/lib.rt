@@ -15,14 +15,16 @@ use terms::Entry;
 use terms::Parameters;
 use terms::ParametersMade;
 use terms::Place;
+use terms::Price;
 use terms::Side;
 use terms::SideMade;
+use terms::Start;
 ghost use mathlib.Core.Path.{_≡_};
-ghost use Rattle.terms.specs.Parameters.{parametersFrom};
-ghost use Rattle.session.specs.Entry.{freshSession, started as Entry·started, entered as Entry·entered, deleted as Entry·deleted};
+ghost use Rattle.session.specs.Entry.{started as Entry·started, entered as Entry·entered, deleted as Entry·deleted};
 ghost use Rattle.session.specs.Auctions.{auctionLeaves, auctioned as Auctions·auctioned, theoretical as Auctions·theoretical};
 ghost use Rattle.session.specs.Queues.{queueLeaves, queued as Queues·queued, filledFront, frontAnswered};
 ghost use Rattle.session.specs.Sound.{Sound};
+ghost use Rattle.session.specs.State.{freshSession};
 
 pub struct Session {
     pub phase: Phase,
@@ -30,7 +32,7 @@ pub struct Session {
     pub delayed: bool,
     pub parameters: Parameters,
     // The reference price in force.
-    pub reference: u32,
+    pub reference: Price,
     // The last order number given.
     pub given: u32,
     pub book: Book,
@@ -82,34 +84,23 @@ impl Session {
     pub fn fresh() -> Session
         ensures { λ r. ⌜ r ≡ freshSession ⌝ }
     {
+        let least = Parameters::least();
         Session {
             phase: Phase::Fresh,
             delayed: false,
-            parameters: Parameters {
-                step: 0,
-                reference: 0,
-                factor: 0,
-                threshold: 0,
-                most: 0,
-            },
-            reference: 0,
+            parameters: least,
+            reference: least.reference,
             given: 0,
             book: Book::empty(),
         }
     }
 
     // Start: refusals 1, 3.
-    pub fn start(self, step: u32, reference: u32, factor: u16, threshold: u16, most: u64) -> Started
+    pub fn start(self, start: Start) -> Started
         requires { ⌜ Sound self ⌝ }
-        ensures { λ r. ⌜ r ≡ Entry·started self (parametersFrom step reference factor threshold most) ⌝ }
+        ensures { λ r. ⌜ r ≡ Entry·started self start ⌝ }
     {
-        let ParametersMade::Good(parameters) = Parameters::new(
-            step,
-            reference,
-            factor,
-            threshold,
-            most,
-        ) else {
+        let ParametersMade::Good(parameters) = Parameters::new(start) else {
             return Started {
                 answer: 1,
                 session: self,
@@ -127,7 +118,7 @@ impl Session {
             phase: Phase::PreOpening,
             delayed: self.delayed,
             parameters,
-            reference,
+            reference: parameters.reference,
             given: self.given,
             book,
         };
@@ -194,8 +185,15 @@ impl Session {
         requires { ⌜ Sound self ⌝ }
         ensures { λ r. ⌜ auctionLeaves r (now (list .exit)) ≡ Auctions·auctioned self which (now (list .entry)) ⌝ }
     {
+        let AuctionMade::Good(auction) = Auction::new(which) else {
+            return Auctioned {
+                answer: 1,
+                result: auctions::no_answer(),
+                session: self,
+            };
+        };
         let phase = self.phase;
-        let answer = refusals::auction_refusal(phase, which, list.len());
+        let answer = refusals::auction_refusal(phase, auction, list.len());
         if answer != 0 {
             return Auctioned {
                 answer,
@@ -203,14 +201,6 @@ impl Session {
                 session: self,
             };
         }
-        let AuctionMade::Good(auction) = Auction::new(which) else {
-            // Never: an auction that is not refused is one.
-            return Auctioned {
-                answer: 1,
-                result: auctions::no_answer(),
-                session: self,
-            };
-        };
         let mut buys = [0u64; Place::COUNT];
         let mut sells = [0u64; Place::COUNT];
         let view = self.outlook(auction, &mut buys, &mut sells);
@@ -225,21 +215,20 @@ impl Session {
         requires { ⌜ Sound self ⌝ }
         ensures { λ r. ⌜ r ≡ Auctions·theoretical self which ⌝ }
     {
+        let AuctionMade::Good(auction) = Auction::new(which) else {
+            return Foreseen {
+                answer: 1,
+                result: auctions::no_answer(),
+            };
+        };
         let phase = self.phase;
-        let answer = refusals::theoretical_refusal(phase, which);
+        let answer = refusals::theoretical_refusal(phase, auction);
         if answer != 0 {
             return Foreseen {
                 answer,
                 result: auctions::no_answer(),
             };
         }
-        let AuctionMade::Good(auction) = Auction::new(which) else {
-            // Never, as above.
-            return Foreseen {
-                answer: 1,
-                result: auctions::no_answer(),
-            };
-        };
         Foreseen {
             answer: 0,
             result: self.foreseen(auction),
@@ -251,13 +240,7 @@ impl Session {
         requires { ⌜ Sound self ⌝ }
         ensures { λ r. ⌜ queueLeaves r (now (list .exit)) ≡ Queues·queued self side which (now (list .entry)) ⌝ }
     {
-        let phase = self.phase;
-        let answer = refusals::ranked_refusal(phase, side, which, list.len());
-        if answer != 0 {
-            return Queued { answer, count: 0 };
-        }
         let SideMade::Good(on) = Side::new(side) else {
-            // Never: a queue that is not refused has a side and an auction.
             return Queued {
                 answer: 1,
                 count: 0,
@@ -269,6 +252,11 @@ impl Session {
                 count: 0,
             };
         };
+        let phase = self.phase;
+        let answer = refusals::ranked_refusal(phase, list.len());
+        if answer != 0 {
+            return Queued { answer, count: 0 };
+        }
         let mut ranks = [0u64; Place::COUNT];
         let count = queue::ranked(
             &mut ranks,
@@ -297,15 +285,23 @@ pub fn filled_front<'a>(
 ) -> &'a [u64]
     ensures { λ r. ⌜ frontAnswered (now (answer .exit)) (now r) ≡ filledFront (now (buys .entry)) (now (sells .entry)) side total ⌝ }
 {
-    let refusal = refusals::front_refusal(buys.len(), sells.len(), side);
-    *answer = refusal;
-    if refusal != 0 {
+    let SideMade::Good(on) = Side::new(side) else {
+        *answer = 1;
+        return &buys[..0];
+    };
+    if (Place::COUNT < buys.len()) | (Place::COUNT < sells.len()) {
+        *answer = 1;
         return &buys[..0];
     }
-    if side == Side::BUY {
-        let k = fills::front_length(buys, total);
-        return &buys[..k];
+    *answer = 0;
+    match on {
+        Side::Buy => {
+            let k = fills::front_length(buys, total);
+            &buys[..k]
+        }
+        Side::Sell => {
+            let k = fills::front_length(sells, total);
+            &sells[..k]
+        }
     }
-    let k = fills::front_length(sells, total);
-    &sells[..k]
 }

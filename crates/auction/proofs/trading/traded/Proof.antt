@@ -6,7 +6,7 @@ use native.Mathlib.Omega.{arith}
 use borrow.Author.Needs.{needs}
 use lib.ListN.{length, take}
 use lib.Seq.{length-take-le}
-use Rattle.auction.specs.Composed.{few-trades, trades-composed, rests-composed}
+use Rattle.auction.specs.Composed.{few-trades, trades-composed, left-composed}
 use Rattle.auction.proofs.trading.traded.Statement.{statement}
 use Rattle.auction.proofs.trading.traded.Tie as tie
 
@@ -91,32 +91,35 @@ lessen-requires-2 c κs =
     let lessen = c .before .before .before .lessen in
     (omega (arith, lessen .kept .0, left-long (c .before .before .before .before .before .before .before .before .before .before .before .before .before .before .before .before .before .before .before .before .before .before .before .before .before .before .before .before)), omega (arith, asks-long (c .before .before .before .before .before .before .before .before .before .before .before .before .before .before .before .before), share-out2 .ensures .0))
 
+end-rests-requires : tie.Need-end-rests-requires
+end-rests-requires c κs = search needs
+
 settled-requires : tie.Need-settled-requires
 settled-requires c κs = search needs
 
-cast-t41 : tie.Need-cast-t41
-cast-t41 c =
-    let pre = c .before .before .before .before .before .before .before .before .before .before .before .before .before .before .before .before .before .before .before .before .before .before .before .before .before .before .before .before .before .before .before .before .pre in
-    let pair = c .before .before .before .before .before .before .before .before .before .before .before .before .before .pair in
-    let b = c .before .before .before .before .before .before .before .before .before .before .before .before .before .before .before .before .before .before .before .before .before .before .before .before .before in
-    let s = c .before .before .before .before .before .before .before .before .before .before .before .before .before .before .before .before .before .before .before .before in
-    let a = c .before .before .before .before .before .before .before .before .before .before .before .before .before .before .before .before .before .before .before .before .before .before .before .before .before .before .before .before .before .before .before .before .args in
-    omega (arith, pair .ensures .0, few-trades (a .t1 .number) (a .buys .now) (bought b) (a .sells .now) (sold s), bids-long b, asks-long s, b .share-out .ensures .0, s .share-out2 .ensures .0, pre)
+cast-t43 : tie.Need-cast-t43
+cast-t43 c =
+    let p = c .before .before .before .before .before .before .before .before .before .before .before .before .before .before .before .before .before in
+    let b = p .before .before .before .before .before .before .before .before .before .before .before .before in
+    let s = p .before .before .before .before .before .before .before in
+    let start = b .before .before .before .before .before .before .before in
+    let a = start .args in
+    omega (arith, p .pair .ensures .0, few-trades (a .t1 .number) (a .buys .now) (bought b) (a .sells .now) (sold s), bids-long b, asks-long s, b .share-out .ensures .0, s .share-out2 .ensures .0, start .pre)
 
 same-length : tie.Need-same-length
 same-length c = search needs
 
 returns : tie.Need-returns
 returns c =
-    let pair = c .before .before .before .before .before .before .before .before .before .before .before .before .before .pair in
-    let lessen = c .before .before .before .before .before .before .before .lessen in
-    let lessen2 = c .before .before .before .lessen2 in
-    let b = c .before .before .before .before .before .before .before .before .before .before .before .before .before .before .before .before .before .before .before .before .before .before .before .before .before in
-    let s = c .before .before .before .before .before .before .before .before .before .before .before .before .before .before .before .before .before .before .before .before in
-    let a = c .before .before .before .before .before .before .before .before .before .before .before .before .before .before .before .before .before .before .before .before .before .before .before .before .before .before .before .before .before .before .before .before .args in
+    let ends = c .before .before in
+    let m = ends .before .before .before .before .before in
+    let p = m .before .before .before .before .before .before .before .before .before .before in
+    let b = p .before .before .before .before .before .before .before .before .before .before .before .before in
+    let s = p .before .before .before .before .before .before .before in
+    let a = b .before .before .before .before .before .before .before .args in
     let trades = trades-composed (a .quantity) (a .t1 .number) (a .t1 .left) (a .buys .now) (a .sells .now) (bought b) (sold s) (b .share-out .ensures .1) (s .share-out2 .ensures .1) in
-    let rests = rests-composed (a .quantity) (a .t1 .left) (a .buys .now) (a .sells .now) (bought b) (sold s) (b .share-out .ensures .1) (s .share-out2 .ensures .1) in
-    (rw (← trades) (pair .ensures .0), rw (← rests, c .settled .ensures, lessen2 .ensures, lessen .ensures), rw (← trades) (pair .ensures .1))
+    let left = left-composed (a .quantity) (a .t1 .left) (a .buys .now) (a .sells .now) (bought b) (sold s) (b .share-out .ensures .1) (s .share-out2 .ensures .1) in
+    (rw (← trades) (p .pair .ensures .0), rw (← left, c .settled .ensures, ends .end-rests .ensures, m .lessen2 .ensures, m .before .before .before .before .lessen .ensures), rw (← trades) (p .pair .ensures .1))
 
 pub traded-spec : {M : Type 1} → statement M
 traded-spec =
@@ -139,7 +142,8 @@ traded-spec =
     array-share-prefix-sold-2
     slice-aggregate-lessen-4
     lessen-requires-2
+    end-rests-requires
     settled-requires
-    cast-t41
+    cast-t43
     same-length
     returns)

@@ -23,10 +23,13 @@ element-copy-out-without-bit c =
 without-bit-requires : tie.Need-without-bit-requires
 without-bit-requires c κs = search needs
 
+empty-requires : tie.Need-empty-requires
+empty-requires c κs = search needs
+
 returns-2 : tie.Need-returns-2
 returns-2 c =
-    let a = c .before .before .before .before .args in
-    delete-done (a .phase) (a .given) (a .taken .now) (a .place) (a .number) (a .member) (c .before .before .before .delete-refusal .ensures) (c .before .before .if1 .left) (c .without-bit .ensures)
+    let a = c .before .before .before .before .before .args in
+    delete-done (a .phase) (a .given) (a .taken .now) (a .place) (a .number) (a .member) (c .before .before .before .before .delete-refusal .ensures) (c .before .before .before .if1 .left) (c .before .without-bit .ensures) (c .empty .ensures)
 
 pub delete-effect-spec : {M : Type 1} → statement M
 delete-effect-spec =
@@ -37,4 +40,5 @@ delete-effect-spec =
     mul-without-bit
     element-copy-out-without-bit
     without-bit-requires
+    empty-requires
     returns-2)

@@ -3,17 +3,21 @@ use borrow.Author.Needs.{needs}
 use borrow.Author.Tests.{ne-eqb}
 use Prim.Native.Nat.{_+_, _-_, _≤_}
 use mathlib.Core.Logic.{⊎-elim}
-use mathlib.Core.Path.{_≡_, _∙_}
+use mathlib.Core.Path.{_≡_, sym, _∙_}
 use native.Mathlib.Omega.{arith}
-use Rattle.auction.specs.Settled.{settledTo, settled-clear, settled-keep, settled-free}
-use Rattle.auction.proofs.after.settled.Statement.{statement}
-use Rattle.auction.proofs.after.settled.Tie as tie
+use lib.Seq.{set-getD}
+use Rattle.book.specs.Settling.{settledTo, settled-clear, settled-keep, settled-free}
+use Rattle.book.proofs.settling.settled.Statement.{statement}
+use Rattle.book.proofs.settling.settled.Tie as tie
 
 abbrev Inv-loop : tie.InvT-loop
-Inv-loop auction rests b₀ place₀ b place = (place ≤ 512) × (b ≡ settledTo auction rests b₀ place)
+Inv-loop rests b₀ none place₀ b place = (place ≤ 512) × (b ≡ settledTo rests b₀ place)
 
 abbrev μ-loop : tie.MeasureT-loop
-μ-loop auction rests b₀ place₀ b place = 512 - place
+μ-loop rests b₀ none place₀ b place = 512 - place
+
+empty-requires : tie.Need-empty-requires Inv-loop μ-loop
+empty-requires c κs = search needs
 
 loop-holds : tie.Need-loop-holds Inv-loop μ-loop
 unfolding settledTo
@@ -33,12 +37,6 @@ mul-rest c = search needs
 
 element-copy-out-rest : tie.Need-element-copy-out-rest Inv-loop μ-loop
 element-copy-out-rest c = search needs
-
-element-copy-out-ends : tie.Need-element-copy-out-ends Inv-loop μ-loop
-element-copy-out-ends c = search needs
-
-ends-requires : tie.Need-ends-requires Inv-loop μ-loop
-ends-requires c κs = search needs
 
 unmarked-requires : tie.Need-unmarked-requires Inv-loop μ-loop
 unmarked-requires c κs = search needs
@@ -90,11 +88,11 @@ loop-again c =
     let l = c .before .before .before .before in
     let so-far = l .loop .inv .1 in
     let test = c .before .bit-of .ensures in
-    let step : c .if1 .b ≡ settledTo (l .before .args .auction) (l .before .args .rests .now) (l .before .args .t1) (l .loop .place + 1) = ⊎-elim
-    (λ w. w .7 ∙ settled-clear _ _ _ (l .loop .b) _ so-far _ (rw (← test, w .0 .taken)) (rw (← w .3 .ensures) (w .4 .taken)) (w .6 .ensures))
+    let step : c .if1 .b ≡ settledTo (l .before .before .args .rests .now) (l .before .before .args .t1) (l .loop .place + 1) = ⊎-elim
+    (λ w. w .5 ∙ settled-clear _ _ (l .loop .b) _ so-far _ (l .before .empty .result) (rw (← test, w .0 .taken)) (w .2 .taken) (w .4 .ensures) (l .before .empty .ensures))
     (⊎-elim
-    (λ w. w .5 ∙ settled-keep _ _ _ (l .loop .b) _ so-far (rw (← test, w .0 .taken)) (rw (← w .3 .ensures) (w .4 .left)))
-    (λ w. w .1 ∙ settled-free _ _ _ (l .loop .b) _ so-far (rw (← test, ne-eqb _ 1 (w .0 .left)))))
+    (λ w. w .3 ∙ sym (simp set-getD) ∙ settled-keep _ _ (l .loop .b) _ so-far (rw (← test, w .0 .taken)) (w .2 .left))
+    (λ w. w .1 ∙ settled-free _ _ (l .loop .b) _ so-far (rw (← test, ne-eqb _ 1 (w .0 .left)))))
     (c .if1 .came) in
     (omega arith, step)
 
@@ -107,14 +105,13 @@ settled-spec =
     (tie.spec
     Inv-loop
     μ-loop
+    empty-requires
     loop-holds
     mul-word
     element-copy-out-word
     bit-of-requires
     mul-rest
     element-copy-out-rest
-    element-copy-out-ends
-    ends-requires
     unmarked-requires
     mul-b
     element-write-b
