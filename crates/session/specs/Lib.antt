@@ -4,6 +4,7 @@ pub mod Entry
 pub mod Auctions
 pub mod Queues
 pub mod Sound
+pub mod StartCall
 pub mod Changes
 pub mod QueueCalls
 pub mod AuctionCalls

@@ -85,11 +85,12 @@ impl Session {
         ensures { λ r. ⌜ r ≡ freshSession ⌝ }
     {
         let least = Parameters::least();
+        let reference = least.reference;
         Session {
             phase: Phase::Fresh,
             delayed: false,
             parameters: least,
-            reference: least.reference,
+            reference,
             given: 0,
             book: Book::empty(),
         }
@@ -114,11 +115,12 @@ impl Session {
             };
         }
         let book = self.book;
+        let reference = parameters.reference;
         let session = Session {
             phase: Phase::PreOpening,
             delayed: self.delayed,
             parameters,
-            reference: parameters.reference,
+            reference,
             given: self.given,
             book,
         };

@@ -1,3 +1,5 @@
+use mathlib.Core.Path.{sym, _∙_}
+use Rattle.session.specs.SoundAfter.{traded-price}
 use Rattle.session.specs.AuctionCalls.{leaves-traded, leaves-no-trade, leaves-non-opening, leaves-delayed}
 use borrow.Author.Needs.{needs}
 use Rattle.session.proofs.Session.carried_out.Statement.{statement}
@@ -5,6 +7,13 @@ use Rattle.session.proofs.Session.carried_out.Tie as tie
 
 enum-known-outcome : tie.Need-enum-known-outcome
 enum-known-outcome c = search needs
+
+known-requires : tie.Need-known-requires
+known-requires c κs =
+    let start = c .before .before .before .before .before .before in
+    let a = start .args in
+    let outcome = c .before .outcome in
+    traded-price (a .self) (start .pre .0) (a .auction) (outcome .given .0 .0) (outcome .given .0 .1 .0) (sym (start .pre .1) ∙ outcome .given .1)
 
 closed-requires : tie.Need-closed-requires
 closed-requires c κs = search needs
@@ -41,12 +50,13 @@ same-length c = search needs
 
 returns : tie.Need-returns
 returns c =
-    let start = c .before .before .before .before .before .before .before .before .before .before .before .before in
+    let k = c .before .before .before .before .before .before in
+    let start = k .before .before .before .before .before .before .before in
     let a = start .args in
-    let outcome = c .before .before .before .before .before .before .before .outcome in
+    let outcome = k .before .before .outcome in
     let closed = c .before .before .before .before .closed in
     leaves-traded (a .self) (start .pre .0) (a .auction) (a .outcome) (start .pre .1) (c .answer-with .result) (a .list .now) (closed .last .1 .1 .1 .1 .1 .1 .1 .0) (start .pre .4)
-    (outcome .given .0 .0) (outcome .given .0 .1 .0) (closed .result .count) (closed .result .session) (outcome .given .1) (c .answer-with .ensures) (closed .ensures)
+    (outcome .given .0 .0) (outcome .given .0 .1 .0) (closed .result .count) (closed .result .session) (outcome .given .1) (c .answer-with .ensures) (rw (k .known .ensures) at (closed .ensures))
 
 same-length-2 : tie.Need-same-length-2
 same-length-2 c = search needs
@@ -79,6 +89,7 @@ carried-out-spec =
     tie.close
     (tie.spec
     enum-known-outcome
+    known-requires
     closed-requires
     answer-with-requires
     enum-told

@@ -17,7 +17,7 @@ slice-aggregate-outlook-2 : tie.Need-slice-aggregate-outlook-2
 slice-aggregate-outlook-2 c = search needs
 
 outlook-requires : tie.Need-outlook-requires
-outlook-requires c κs = (c .before .before .pre .0, c .before .before .pre .1, search needs, search needs)
+outlook-requires c κs = (c .before .before .pre, search needs, search needs)
 
 enum-known-outcome : tie.Need-enum-known-outcome
 enum-known-outcome c = search needs
@@ -71,8 +71,8 @@ returns c =
     let a = start .args in
     let outlook = c .before .before .before .before .before .before .before .before .before .before .before .before .outlook in
     let outcome = c .before .before .before .before .before .before .before .before .outcome in
-    foretold (a .t1) (start .pre .0) (a .auction) (Traded (outcome .given .0 .0) (outcome .given .0 .1 .0)) (sym (outcome .given .1) ∙ outlook .ensures .0) (c .answer-with .result) (c .before .count-trades .result)
-    (trades-counted (a .t1) (start .pre .0) (a .auction) (take (outlook .result .bids) (outlook .last .1 .1 .0)) (take (outlook .result .asks) (outlook .last .1 .1 .1 .0)) (outlook .ensures .2) (outlook .ensures .4)
+    foretold (a .t1) (start .pre) (a .auction) (Traded (outcome .given .0 .0) (outcome .given .0 .1 .0)) (sym (outcome .given .1) ∙ outlook .ensures .0) (c .answer-with .result) (c .before .count-trades .result)
+    (trades-counted (a .t1) (start .pre) (a .auction) (take (outlook .result .bids) (outlook .last .1 .1 .0)) (take (outlook .result .asks) (outlook .last .1 .1 .1 .0)) (outlook .ensures .2) (outlook .ensures .4)
     (outcome .given .0 .1 .0) (c .before .count-trades .result) (c .before .count-trades .ensures))
     (c .answer-with .ensures)
 
@@ -81,21 +81,21 @@ returns-2 c =
     let start = c .before .before .before .before .before .before .before .before in
     let a = start .args in
     let outlook = c .before .before .before .before .before .outlook in
-    foretold (a .t1) (start .pre .0) (a .auction) NoTrade (sym (c .before .enum-told .given .1) ∙ outlook .ensures .0) (c .answer-with2 .result) 0 refl (c .answer-with2 .ensures ∙ rw (c .before .enum-told .given .1))
+    foretold (a .t1) (start .pre) (a .auction) NoTrade (sym (c .before .enum-told .given .1) ∙ outlook .ensures .0) (c .answer-with2 .result) 0 refl (c .answer-with2 .ensures ∙ rw (c .before .enum-told .given .1))
 
 returns-3 : tie.Need-returns-3
 returns-3 c =
     let start = c .before .before .before .before .before .before .before .before in
     let a = start .args in
     let outlook = c .before .before .before .before .before .outlook in
-    foretold (a .t1) (start .pre .0) (a .auction) NonOpening (sym (c .before .enum-told2 .given .1) ∙ outlook .ensures .0) (c .answer-with3 .result) 0 refl (c .answer-with3 .ensures ∙ rw (c .before .enum-told2 .given .1))
+    foretold (a .t1) (start .pre) (a .auction) NonOpening (sym (c .before .enum-told2 .given .1) ∙ outlook .ensures .0) (c .answer-with3 .result) 0 refl (c .answer-with3 .ensures ∙ rw (c .before .enum-told2 .given .1))
 
 returns-4 : tie.Need-returns-4
 returns-4 c =
     let start = c .before .before .before .before .before .before .before .before .before in
     let a = start .args in
     let outlook = c .before .before .before .before .before .before .outlook in
-    foretold (a .t1) (start .pre .0) (a .auction) (Delayed (c .before .before .outcome2 .given .0 .0) (c .before .before .outcome2 .given .0 .1 .0)) (sym (c .before .before .outcome2 .given .1) ∙ outlook .ensures .0) (c .answer-with4 .result) 0 refl (c .answer-with4 .ensures)
+    foretold (a .t1) (start .pre) (a .auction) (Delayed (c .before .before .outcome2 .given .0 .0) (c .before .before .outcome2 .given .0 .1 .0)) (sym (c .before .before .outcome2 .given .1) ∙ outlook .ensures .0) (c .answer-with4 .result) 0 refl (c .answer-with4 .ensures)
 
 pub foreseen-spec : {M : Type 1} → statement M
 foreseen-spec =

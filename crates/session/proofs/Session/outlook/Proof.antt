@@ -1,13 +1,23 @@
-use native.Mathlib.Omega.{arith}
 use mathlib.Core.Path.{sym}
+use native.Mathlib.Omega.{arith}
 use lib.ListN.{take}
 use lib.Seq.{length-take-le}
+use borrow.Author.Needs.{needs}
 use Rattle.terms.specs.declared.orders.{Side.the-variants.Buy, Side.the-variants.Sell}
 use Rattle.auction.specs.Trading.{ranks-few, ranks-ascend}
 use Rattle.session.specs.AuctionCalls.{outcome-by-ranks}
-use borrow.Author.Needs.{needs}
 use Rattle.session.proofs.Session.outlook.Statement.{statement}
 use Rattle.session.proofs.Session.outlook.Tie as tie
+
+-- the ranks of the buys, those of the sells behind them, and what the outcome is asked for
+abbrev buys-at : tie.After-ranked2 → tie.After-ranked
+buys-at c = c .before .before .before .before .before .before .before .before .before
+
+abbrev start : tie.After-ranked → tie.Start
+start c = c .before .before .before .before .before .before .before .before .before
+
+abbrev sells-at : tie.After-outcome-now-arg3 → tie.After-ranked2
+sells-at c = c .before .before .before .before .before .before .before .before .before .before .before .before
 
 ranked-requires : tie.Need-ranked-requires
 ranked-requires c κs = search needs
@@ -21,33 +31,39 @@ preventable-requires c κs = search needs
 delayable-requires : tie.Need-delayable-requires
 delayable-requires c κs = search needs
 
+number-requires : tie.Need-number-requires
+number-requires c κs = search needs
+
+number-requires-2 : tie.Need-number-requires-2
+number-requires-2 c κs = search needs
+
 slice-reshare-prefix-outcome-now : tie.Need-slice-reshare-prefix-outcome-now
 slice-reshare-prefix-outcome-now c = search needs
 
 slice-aggregate-outcome-now : tie.Need-slice-aggregate-outcome-now
 slice-aggregate-outcome-now c =
-    let pre = c .before .before .before .before .before .before .before .before .before .before .before .before .before .before .before .before .before .before .before .before .before .before .before .before .before .before .before .pre in
-    let ranked = c .before .before .before .before .before .before .before .before .before .before .before .before .before .before .before .before .before .before .ranked in
-    sym (length-take-le (ranked .result) (ranked .last .0) (omega (arith, ranked .kept .0, ranked .ensures .0, pre .2)))
+    let b = buys-at (sells-at c) in
+    let ranked = b .ranked in
+    sym (length-take-le (ranked .result) (ranked .last .0) (omega (arith, ranked .kept .0, ranked .ensures .0, start b .pre .1)))
 
 slice-reshare-prefix-outcome-now-2 : tie.Need-slice-reshare-prefix-outcome-now-2
 slice-reshare-prefix-outcome-now-2 c = search needs
 
 slice-aggregate-outcome-now-2 : tie.Need-slice-aggregate-outcome-now-2
 slice-aggregate-outcome-now-2 c =
-    let pre = c .before .before .before .before .before .before .before .before .before .before .before .before .before .before .before .before .before .before .before .before .before .before .before .before .before .before .before .before .pre in
-    let ranked2 = c .before .before .before .before .before .before .before .before .before .before .ranked2 in
-    sym (length-take-le (ranked2 .result) (ranked2 .last .0) (omega (arith, ranked2 .kept .0, ranked2 .ensures .0, pre .3)))
+    let s = sells-at (c .before) in
+    let ranked = s .ranked2 in
+    sym (length-take-le (ranked .result) (ranked .last .0) (omega (arith, ranked .kept .0, ranked .ensures .0, start (buys-at s) .pre .2)))
 
 outcome-now-requires : tie.Need-outcome-now-requires
 outcome-now-requires c κs =
-    let ranked = c .before .before .before .before .before .before .before .before .before .before .before .before .before .before .before .before .before .before .before .ranked in
-    let ranked2 = c .before .before .before .before .before .before .before .before .before .before .ranked2 in
-    let a = c .before .before .before .before .before .before .before .before .before .before .before .before .before .before .before .before .before .before .before .before .before .before .before .before .before .before .before .before .args in (
-      rw (ranked .ensures .1) (ranks-ascend (a .t1 .book) (a .auction) Buy),
-      rw (ranked .ensures .1) (ranks-few (a .t1 .book) (a .auction) Buy),
-      rw (ranked2 .ensures .1) (ranks-ascend (a .t1 .book) (a .auction) Sell),
-      rw (ranked2 .ensures .1) (ranks-few (a .t1 .book) (a .auction) Sell),
+    let s = sells-at (c .before) in
+    let b = buys-at s in
+    let a = start b .args in (
+      rw (b .ranked .ensures .1) (ranks-ascend (a .t1 .book) (a .auction) Buy),
+      rw (b .ranked .ensures .1) (ranks-few (a .t1 .book) (a .auction) Buy),
+      rw (s .ranked2 .ensures .1) (ranks-ascend (a .t1 .book) (a .auction) Sell),
+      rw (s .ranked2 .ensures .1) (ranks-few (a .t1 .book) (a .auction) Sell),
     )
 
 same-length : tie.Need-same-length
@@ -58,14 +74,15 @@ same-length-2 c = search needs
 
 returns : tie.Need-returns
 returns c =
-    let pre = c .before .before .before .before .before .before .before .before .before .before .before .before .before .before .before .before .before .before .before .before .before .before .before .before .before .before .before .before .before .pre in
-    let ranked = c .before .before .before .before .before .before .before .before .before .before .before .before .before .before .before .before .before .before .before .before .ranked in
-    let ranked2 = c .before .before .before .before .before .before .before .before .before .before .before .ranked2 in
-    let preventable = c .before .before .before .before .before .before .before .preventable in
-    let delayable = c .before .before .before .before .before .before .delayable in
-    let a = c .before .before .before .before .before .before .before .before .before .before .before .before .before .before .before .before .before .before .before .before .before .before .before .before .before .before .before .before .before .args in (
-      outcome-by-ranks (a .t1) (pre .0) (a .auction) (pre .1) (take (ranked .result) (ranked .last .0)) (take (ranked2 .result) (ranked2 .last .0)) (ranked .ensures .1) (ranked2 .ensures .1)
-          (preventable .result) (delayable .result) (preventable .ensures) (delayable .ensures) (c .outcome-now .result) (c .outcome-now .ensures),
+    let s = sells-at (c .before .before) in
+    let b = buys-at s in
+    let a = start b .args in
+    let ranked = b .ranked in
+    let ranked2 = s .ranked2 in
+    let d = c .before .before .before .before .before .before .before .before in (
+      outcome-by-ranks (a .t1) (start b .pre .0) (a .auction) (take (ranked .result) (ranked .last .0)) (take (ranked2 .result) (ranked2 .last .0)) (ranked .ensures .1) (ranked2 .ensures .1)
+      (d .before .before .preventable .result) (d .before .delayable .result) (d .before .before .preventable .ensures) (d .before .delayable .ensures)
+      (c .outcome-now .result) (rw (d .number .ensures, c .before .before .before .before .before .before .number2 .ensures) at (c .outcome-now .ensures)),
       ranked .ensures .0,
       ranked .ensures .1,
       ranked2 .ensures .0,
@@ -80,6 +97,8 @@ outlook-spec =
     ranked-requires-2
     preventable-requires
     delayable-requires
+    number-requires
+    number-requires-2
     slice-reshare-prefix-outcome-now
     slice-aggregate-outcome-now
     slice-reshare-prefix-outcome-now-2

@@ -1,8 +1,7 @@
-use mathlib.Core.Path.{_∙_, sym}
-use Rattle.terms.specs.Made.{parameters-refused, parameters-good}
-use Rattle.refusals.specs.Checks.{firstHit}
-use Rattle.session.specs.Entry.{started}
+use mathlib.Core.Path.{_≡_, sym, _∙_}
 use borrow.Author.Needs.{needs}
+use Rattle.terms.specs.Made.{parameters-good, parameters-refused}
+use Rattle.session.specs.StartCall.{start-out-of-range, start-again, start-begun}
 use Rattle.session.proofs.Session.start.Statement.{statement}
 use Rattle.session.proofs.Session.start.Tie as tie
 
@@ -16,27 +15,25 @@ enum-told : tie.Need-enum-told
 enum-told c = search needs
 
 returns : tie.Need-returns
-unfolding started firstHit
-returns c = rw (parameters-refused _ _ _ _ _ (sym (c .before .before .new .ensures) ∙ c .enum-told .given .1))
+returns c =
+    let a = c .before .before .before .args in
+    start-out-of-range (a .self) (a .start) (parameters-refused (a .start) (sym (c .enum-told .given .1) ∙ c .before .before .new .ensures))
 
 has-started-requires : tie.Need-has-started-requires
 has-started-requires c κs = search needs
 
 returns-2 : tie.Need-returns-2
-unfolding started firstHit
 returns-2 c =
-    let new = c .before .before .before .before .before .new in
-    let parameters = c .before .before .before .parameters in
-    let good = parameters-good _ _ _ _ _ _ (sym (new .ensures) ∙ parameters .given .1) in
-    rw (good .0, sym (c .before .has-started .ensures) ∙ c .if1 .taken)
+    let k = c .before .before in
+    let a = k .before .before .before .before .args in
+    start-again (a .self) (a .start) (parameters-good (a .start) (sym (k .before .parameters .given .1) ∙ k .before .before .before .new .ensures)) (sym (c .before .has-started .ensures) ∙ c .if1 .taken)
 
 returns-3 : tie.Need-returns-3
-unfolding started firstHit
 returns-3 c =
-    let new = c .before .before .before .before .before .before .new in
-    let parameters = c .before .before .before .before .parameters in
-    let good = parameters-good _ _ _ _ _ _ (sym (new .ensures) ∙ parameters .given .1) in
-    rw (good .0, sym (c .before .before .has-started .ensures) ∙ c .before .if1 .left, good .1)
+    let i = c .before .before in
+    let k = i .before .before in
+    let a = k .before .before .before .before .args in
+    start-begun (a .self) (a .start) (parameters-good (a .start) (sym (k .before .parameters .given .1) ∙ k .before .before .before .new .ensures)) (sym (i .before .has-started .ensures) ∙ i .if1 .left)
 
 pub start-spec : {M : Type 1} → statement M
 start-spec =

@@ -1,17 +1,17 @@
-use mathlib.Core.Path.{sym, _∙_}
-use Rattle.session.specs.AuctionCalls.{theoretical-turned-down, theoretical-called, theoretical-started, theoretical-foreseen}
+use mathlib.Core.Bool.{true}
+use mathlib.Core.Path.{_≡_, sym, _∙_}
 use borrow.Author.Needs.{needs}
+use Rattle.terms.specs.Made.{auction-good, auction-refused}
+use Rattle.terms.specs.Orders.{isAuction, auctionFrom}
+use Rattle.session.specs.AuctionCalls.{theoretical-out-of-range, theoretical-turned-down, theoretical-foreseen}
 use Rattle.session.proofs.Session.theoretical.Statement.{statement}
 use Rattle.session.proofs.Session.theoretical.Tie as tie
 
-theoretical-refusal-requires : tie.Need-theoretical-refusal-requires
-theoretical-refusal-requires c κs = search needs
+abbrev start : tie.After-known-told → tie.Start
+start k = k .before .before .before .before
 
-no-answer-requires : tie.Need-no-answer-requires
-no-answer-requires c κs = search needs
-
-returns : tie.Need-returns
-returns c = rw (c .no-answer .ensures) (theoretical-turned-down (c .before .before .before .args .self) (c .before .before .before .args .which) (c .before .before .theoretical-refusal .ensures) (c .before .if1 .taken))
+good : (k : tie.After-known-told) → let which = start k .args .which in (isAuction which ≡ true) × (k .before .auction .given .0 .0 ≡ auctionFrom which)
+good k = auction-good (start k .args .which) (sym (k .before .auction .given .1) ∙ k .before .before .before .new .ensures)
 
 new-requires : tie.Need-new-requires
 new-requires c κs = search needs
@@ -22,43 +22,46 @@ enum-known-auction c = search needs
 enum-told : tie.Need-enum-told
 enum-told c = search needs
 
+no-answer-requires : tie.Need-no-answer-requires
+no-answer-requires c κs = search needs
+
+returns : tie.Need-returns
+returns c =
+    let n = c .before .before .before in
+    let a = n .before .args in
+    rw (c .no-answer .ensures) (theoretical-out-of-range (a .self) (a .which) (auction-refused (a .which) (sym (c .before .enum-told .given .1) ∙ n .new .ensures)))
+
+theoretical-refusal-requires : tie.Need-theoretical-refusal-requires
+theoretical-refusal-requires c κs = search needs
+
 no-answer-requires-2 : tie.Need-no-answer-requires-2
 no-answer-requires-2 c κs = search needs
 
 returns-2 : tie.Need-returns-2
 returns-2 c =
-    let a = c .before .before .before .before .before .before .args in
-    let theoretical-refusal = c .before .before .before .before .before .theoretical-refusal in
-    let if1 = c .before .before .before .before .if1 in
-    let new = c .before .before .before .new in
-    absurd (theoretical-called (a .self) (a .which) (sym (theoretical-refusal .ensures) ∙ if1 .left) (new .ensures) (c .before .enum-told .given .1))
+    let r = c .before .before in
+    let a = start (r .before) .args in
+    rw (c .no-answer2 .ensures) (theoretical-turned-down (a .self) (a .which) (good (r .before)) (r .theoretical-refusal .ensures) (c .before .if1 .taken))
 
 foreseen-requires : tie.Need-foreseen-requires
-foreseen-requires c κs =
-    let start = c .before .before .before .before .before .before in
-    let a = start .args in
-    let theoretical-refusal = c .before .before .before .before .before .theoretical-refusal in
-    let if1 = c .before .before .before .before .if1 in
-    (start .pre, theoretical-started (a .self) (a .which) (sym (theoretical-refusal .ensures) ∙ if1 .left))
+foreseen-requires c κs = start (c .before .before) .pre
 
 returns-3 : tie.Need-returns-3
 returns-3 c =
-    let a = c .before .before .before .before .before .before .before .args in
-    let theoretical-refusal = c .before .before .before .before .before .before .theoretical-refusal in
-    let if1 = c .before .before .before .before .before .if1 in
-    let new = c .before .before .before .before .new in
-    theoretical-foreseen (a .self) (a .which) (sym (theoretical-refusal .ensures) ∙ if1 .left) (c .before .before .auction .given .0 .0) (sym (new .ensures) ∙ c .before .before .auction .given .1) (c .foreseen .result) (c .foreseen .ensures)
+    let r = c .before .before in
+    let a = start (r .before) .args in
+    theoretical-foreseen (a .self) (a .which) (good (r .before)) (r .theoretical-refusal .ensures) (c .before .if1 .left) (c .foreseen .ensures)
 
 pub theoretical-spec : {M : Type 1} → statement M
 theoretical-spec =
     tie.close
     (tie.spec
-    theoretical-refusal-requires
-    no-answer-requires
-    returns
     new-requires
     enum-known-auction
     enum-told
+    no-answer-requires
+    returns
+    theoretical-refusal-requires
     no-answer-requires-2
     returns-2
     foreseen-requires
