@@ -5,8 +5,7 @@ use price::apart;
 use terms::DelayThreshold;
 use terms::product;
 ghost use mathlib.Core.Path.{_≡_};
-ghost use mathlib.Core.Bool.{_&&_};
-ghost use Rattle.auction.specs.Outcome.{exceeds, reaches as Outcome·reaches};
+ghost use Rattle.auction.specs.Outcome.{exceeds as Outcome·exceeds, reaches as Outcome·reaches};
 ghost use Rattle.auction.specs.Decided.{outcomeFrom};
 
 // |price − reference| × 10,000 ≥ threshold × reference
@@ -17,24 +16,14 @@ fn reaches(threshold: u16, reference: u32, price: u32) -> bool
     product(threshold as u32, reference) <= away * DelayThreshold::WHOLE
 }
 
-// Delayed Opening: the auction may be delayed, and the price reaches the threshold.
-fn delays(delayable: bool, threshold: u16, reference: u32, price: u32) -> bool
-    ensures { λ r. ⌜ r ≡ (delayable && Outcome·reaches threshold reference price) ⌝ }
+// Non Opening: the unlimited quantity on either side exceeds what can be executed.
+fn exceeds(most: u64, unlimited_buys: u64, unlimited_sells: u64) -> bool
+    ensures { λ r. ⌜ r ≡ Outcome·exceeds most «unlimited_buys» «unlimited_sells» ⌝ }
 {
-    if delayable {
-        reaches(threshold, reference, price)
-    } else {
-        false
-    }
+    (most < unlimited_buys) | (most < unlimited_sells)
 }
 
-// Non Opening: the auction may be prevented, and the unlimited quantity on either side exceeds what can be executed.
-fn prevented(preventable: bool, most: u64, unlimited_buys: u64, unlimited_sells: u64) -> bool
-    ensures { λ r. ⌜ r ≡ (preventable && exceeds most «unlimited_buys» «unlimited_sells») ⌝ }
-{
-    preventable & ((most < unlimited_buys) | (most < unlimited_sells))
-}
-
+// An auction that may be prevented has Non Opening first, one that may be delayed Delayed Opening next.
 pub fn outcome_of(
     preventable: bool,
     delayable: bool,
@@ -46,13 +35,13 @@ pub fn outcome_of(
 ) -> Outcome
     ensures { λ r. ⌜ r ≡ outcomeFrom (record { preventable = preventable; delayable = delayable }) threshold reference found «unlimited_buys» «unlimited_sells» ⌝ }
 {
-    if prevented(preventable, found.most, unlimited_buys, unlimited_sells) {
+    if preventable & exceeds(found.most, unlimited_buys, unlimited_sells) {
         return Outcome::NonOpening;
     }
     if found.most == 0 {
         return Outcome::NoTrade;
     }
-    if delays(delayable, threshold, reference, found.price) {
+    if delayable && reaches(threshold, reference, found.price) {
         return Outcome::Delayed {
             price: found.price,
             quantity: found.most,
