@@ -4,9 +4,9 @@ use mathlib.Core.Path.{_≡_, refl}
 use Prim.Native.Nat.{ℕ}
 use mathlib.Core.List.{List, [], _∷_, _++_}
 use Rattle.terms.specs.declared.orders.{Limit.the-variants.Unlimited}
-use Rattle.records.specs.declared.{Record.Record, Read.Read}
-use Rattle.records.specs.Fields.{number}
-use Rattle.records.specs.Walk.{recordAt, walkFrom, walk}
+use Rattle.records.specs.declared.{Record.Record}
+use Rattle.records.specs.Fields.{number, isLength}
+use Rattle.records.specs.Walk.{Read, recordAt, walkFrom, walk}
 
 -- 18 00 01 00 64 00 00 00 A0 86 01 00 09 00 96 00 00 10 A5 D4 E8 00 00 00
 abbrev startBytes : List ℕ
@@ -14,7 +14,7 @@ startBytes =
     0x18 ∷ 0x00 ∷ 0x01 ∷ 0x00 ∷ 0x64 ∷ 0x00 ∷ 0x00 ∷ 0x00 ∷ 0xA0 ∷ 0x86 ∷ 0x01 ∷ 0x00 ∷ 0x09 ∷ 0x00 ∷ 0x96 ∷ 0x00 ∷ 0x00 ∷ 0x10 ∷ 0xA5 ∷ 0xD4 ∷ 0xE8 ∷ 0x00 ∷ 0x00 ∷ 0x00 ∷ []
 
 start-read : recordAt startBytes 0 ≡ Read.Record (Record.Start (record { step = 100; reference = 100_000; factor = 9; threshold = 150; most = 1_000_000_000_000 })) 24
-unfolding recordAt number
+unfolding recordAt isLength number
 start-read = refl
 
 -- member 258, sell, till a later day, 1, unlimited; behind the start record
@@ -22,39 +22,39 @@ abbrev orderBytes : List ℕ
 orderBytes = 16 ∷ 0 ∷ 2 ∷ 0 ∷ 2 ∷ 1 ∷ 2 ∷ 4 ∷ 1 ∷ 0 ∷ 0 ∷ 0 ∷ 0 ∷ 0 ∷ 0 ∷ 0 ∷ []
 
 order-read : recordAt (startBytes ++ orderBytes) 24 ≡ Read.Record (Record.Order (record { member = 258; side = 2; validity = 4; quantity = 1; limit = Unlimited })) 40
-unfolding recordAt number
+unfolding recordAt isLength number
 order-read = refl
 
 delete-read : recordAt (10 ∷ 0 ∷ 3 ∷ 0 ∷ 1 ∷ 2 ∷ 0 ∷ 0 ∷ 7 ∷ 0 ∷ []) 0 ≡ Read.Record (Record.Delete (record { number = 513; member = 7 })) 10
-unfolding recordAt number
+unfolding recordAt isLength number
 delete-read = refl
 
 auction-read : recordAt (5 ∷ 0 ∷ 4 ∷ 0 ∷ 2 ∷ []) 0 ≡ Read.Record (Record.Auction 2) 5
-unfolding recordAt number
+unfolding recordAt isLength number
 auction-read = refl
 
 -- an empty file is good and has no records
 empty : walk [] ≡ record { records = []; faulty = false }
-unfolding walkFrom recordAt number
+unfolding walkFrom recordAt isLength number
 empty = refl
 
 two-records : walk (5 ∷ 0 ∷ 4 ∷ 0 ∷ 1 ∷ 5 ∷ 0 ∷ 4 ∷ 0 ∷ 2 ∷ []) ≡ record { records = Record.Auction 1 ∷ Record.Auction 2 ∷ []; faulty = false }
-unfolding walkFrom recordAt number
+unfolding walkFrom recordAt isLength number
 two-records = refl
 
 -- an unknown kind, a length that is not the kind's, a cut record and a cut header end the walk
 unknown-kind : walk (5 ∷ 0 ∷ 9 ∷ 0 ∷ 1 ∷ []) ≡ record { records = []; faulty = true }
-unfolding walkFrom recordAt number
+unfolding walkFrom recordAt isLength number
 unknown-kind = refl
 
 wrong-length : walk (6 ∷ 0 ∷ 4 ∷ 0 ∷ 1 ∷ 0 ∷ []) ≡ record { records = []; faulty = true }
-unfolding walkFrom recordAt number
+unfolding walkFrom recordAt isLength number
 wrong-length = refl
 
 cut-record : walk (5 ∷ 0 ∷ 4 ∷ 0 ∷ 1 ∷ 5 ∷ 0 ∷ 4 ∷ 0 ∷ []) ≡ record { records = Record.Auction 1 ∷ []; faulty = true }
-unfolding walkFrom recordAt number
+unfolding walkFrom recordAt isLength number
 cut-record = refl
 
 cut-header : walk (5 ∷ 0 ∷ 4 ∷ []) ≡ record { records = []; faulty = true }
-unfolding walkFrom recordAt number
+unfolding walkFrom recordAt isLength number
 cut-header = refl

@@ -1,12 +1,13 @@
--- Fields: 01 "Session file". Little-endian, read from the part that starts at the record's fifth byte.
+-- Fields: 01 "Session file". Little-endian, read from the part that starts at the record's fifth byte. A kind's layout is the list of its fields' widths.
 use Prim.Native.Nat.{ℕ, zero, suc, _+_, _*_}
-use mathlib.Core.Bool.{cond}
-use mathlib.Core.List.{List}
+use mathlib.Core.Bool.{Bool, cond, not, _&&_}
+use mathlib.Core.List.{List, [], _∷_}
 use lib.Dec.{eqb}
 use lib.ListN.{getD}
+use Rattle.lists.specs.Sums.{sum}
 use Rattle.terms.specs.Orders.{limitFrom}
 use Rattle.terms.specs.declared.orders.{Entry.Entry}
-use Rattle.terms.specs.declared.parameters.{Parameters.Parameters}
+use Rattle.terms.specs.declared.parameters.{Start.Start}
 use Rattle.records.specs.declared.{Deletion.Deletion, Record.Record}
 
 -- the number that n bytes from a place on hold, the least byte first
@@ -18,37 +19,68 @@ number bytes place (suc n) = getD bytes place 0 + 256 * number bytes (suc place)
 abbrev pub headerLength : ℕ
 headerLength = 4
 
--- kind 1, start: step 4, reference 4, factor 2, threshold 2, maximum value 8
-abbrev pub startFields : List ℕ → Parameters
-startFields part = record {
-  step = number part 0 4;
-  reference = number part 4 4;
-  factor = number part 8 2;
-  threshold = number part 10 2;
-  most = number part 12 8;
-}
+-- the widths of a kind's fields in bytes; none for an unknown kind
+abbrev pub widths : ℕ → List ℕ
+widths kind =
+    -- start: step, reference, factor, threshold, maximum value
+    cond (eqb kind 1) (4 ∷ 4 ∷ 2 ∷ 2 ∷ 8 ∷ [])
+    -- order: member, side, validity, quantity, limit
+    (cond (eqb kind 2) (2 ∷ 1 ∷ 1 ∷ 4 ∷ 4 ∷ [])
+    -- delete: number, member
+    (cond (eqb kind 3) (4 ∷ 2 ∷ [])
+    -- auction: which
+    (cond (eqb kind 4) (1 ∷ [])
+    [])))
 
--- kind 2, order: member 2, side 1, validity 1, quantity 4, limit 4
-abbrev pub orderFields : List ℕ → Entry
-orderFields part = record {
-  member = number part 0 2;
-  side = number part 2 1;
-  validity = number part 3 1;
-  quantity = number part 4 4;
-  limit = limitFrom (number part 8 4);
-}
+abbrev pub layoutLength : List ℕ → ℕ
+layoutLength ws = sum (λ w. w) ws
 
--- kind 3, delete: number 4, member 2
-abbrev pub deleteFields : List ℕ → Deletion
-deleteFields part = record { number = number part 0 4; member = number part 4 2 }
-
--- kind 4, auction: one byte
-abbrev pub auctionField : List ℕ → ℕ
-auctionField part = number part 0 1
+-- .. with the header; 0 where there are no fields
+abbrev pub wholeLength : List ℕ → ℕ
+wholeLength [] = 0
+wholeLength (w ∷ ws) = headerLength + layoutLength (w ∷ ws)
 
 -- each kind's whole length; 0 for an unknown kind
 abbrev pub kindLength : ℕ → ℕ
-kindLength kind = cond (eqb kind 1) 24 (cond (eqb kind 2) 16 (cond (eqb kind 3) 10 (cond (eqb kind 4) 5 0)))
+kindLength kind = wholeLength (widths kind)
+
+-- whether a length is right for a kind, given the file's bytes from the record's place on; each kind has one length, so that none has to look at them
+unfoldable pub isLength : ℕ → List ℕ → ℕ → Bool
+isLength kind bytes length = not (eqb (kindLength kind) 0) && eqb length (kindLength kind)
+
+-- the numbers that fields of such widths hold, from a place on: each field starts where the one before it ends
+abbrev pub fieldsFrom : List ℕ → List ℕ → ℕ → List ℕ
+fieldsFrom [] part place = []
+fieldsFrom (w ∷ ws) part place = number part place w ∷ fieldsFrom ws part (place + w)
+
+abbrev pub fieldsOf : List ℕ → List ℕ → List ℕ
+fieldsOf ws part = fieldsFrom ws part 0
+
+-- a record from its fields' numbers, in their order
+abbrev pub startFrom : List ℕ → Start
+startFrom ns = record { step = getD ns 0 0; reference = getD ns 1 0; factor = getD ns 2 0; threshold = getD ns 3 0; most = getD ns 4 0 }
+
+abbrev pub orderFrom : List ℕ → Entry
+orderFrom ns = record { member = getD ns 0 0; side = getD ns 1 0; validity = getD ns 2 0; quantity = getD ns 3 0; limit = limitFrom (getD ns 4 0) }
+
+abbrev pub deleteFrom : List ℕ → Deletion
+deleteFrom ns = record { number = getD ns 0 0; member = getD ns 1 0 }
+
+abbrev pub auctionFrom : List ℕ → ℕ
+auctionFrom ns = getD ns 0 0
+
+-- .. and from the part that holds them
+abbrev pub startFields : List ℕ → Start
+startFields part = startFrom (fieldsOf (widths 1) part)
+
+abbrev pub orderFields : List ℕ → Entry
+orderFields part = orderFrom (fieldsOf (widths 2) part)
+
+abbrev pub deleteFields : List ℕ → Deletion
+deleteFields part = deleteFrom (fieldsOf (widths 3) part)
+
+abbrev pub auctionField : List ℕ → ℕ
+auctionField part = auctionFrom (fieldsOf (widths 4) part)
 
 -- the record of a known kind
 abbrev pub recordOf : ℕ → List ℕ → Record

@@ -1,17 +1,18 @@
 -- What a whole header says: 01 "Session file". Its length and its kind are judged as one number.
-use Prim.Native.Nat.{ℕ, suc, _+_, _*_, _-_, _≤_, _<_}
-use mathlib.Core.Bool.{Bool, true, false, cond, not, _||_, _&&_, true≢false}
-use mathlib.Core.Path.{_≡_, refl, sym, _∙_, ap}
+use Prim.Native.Nat.{ℕ, suc, _+_, _-_, _≤_, _<_}
+use mathlib.Core.Bool.{Bool, true, false, cond, not, _||_}
+use mathlib.Core.Path.{_≡_, refl, sym}
 use mathlib.Core.List.{List}
 use lib.Dec.{eqb}
 use lib.ListN.{length, take, drop, getD}
 use native.Mathlib.Omega.{arith}
-use borrow.Author.Tests.{lt-leb, lt-ltb, le-ltb, eq-eqb, ne-eqb, eqb-true}
-use Rattle.records.specs.declared.{Record.Record, Read.Read, walk.Header.Header}
+use borrow.Author.Tests.{lt-leb, lt-ltb, le-ltb}
+use Rattle.records.specs.declared.{Record.Record, walk.Header.Header}
 use Rattle.records.specs.Fields.{number, headerLength, kindLength, recordOf}
 use Rattle.records.specs.Numbers.{number-four}
-use Rattle.records.specs.Walk.{lengthAt, kindAt, partAt, recordAt}
-use Rattle.records.specs.Reads.{isHeader, isCut, faulty-whole, known-length}
+use Rattle.records.specs.Walk.{Read, lengthAt, kindAt, partAt, isHeader, isCut, recordAt}
+use Rattle.records.specs.Lengths.{headOf, known-length, length-known, length-other}
+use Rattle.records.specs.Reads.{faulty-whole}
 
 -- its record, which may be cut; or no known kind with that kind's length
 unfoldable pub headerAt : List ℕ → ℕ → Header
@@ -19,10 +20,6 @@ headerAt bytes place =
     cond (isHeader bytes place)
     (cond (isCut bytes place) Header.Cut (Header.Record (recordOf (kindAt bytes place) (partAt bytes place)) (place + lengthAt bytes place)))
     Header.Bad
-
--- a kind's length and the kind as one number of four bytes
-abbrev pub headOf : ℕ → ℕ
-headOf kind = kindLength kind + 65_536 * kind
 
 -- of a file that won't grow
 abbrev pub headerRead : Header → Read
@@ -56,7 +53,7 @@ module _ (bytes : List ℕ) (place : ℕ) (small : (i : ℕ) → getD bytes i 0 
       (omega (arith, s, l, e), omega (arith, s, l, e))
 
   good : isHeader bytes place ≡ true
-  good = rw (halves .0, halves .1, known) (eq-eqb (kindLength kind) (kindLength kind) refl)
+  good = rw (halves .0, halves .1) (length-known kind (drop place bytes) known)
 
   pub header-cut : length bytes - place < kindLength kind → Header.Cut ≡ headerAt bytes place
   unfolding headerAt
@@ -71,22 +68,8 @@ module _ (bytes : List ℕ) (place : ℕ) (small : (i : ℕ) → getD bytes i 0 
       let t : place + lengthAt bytes place ≤ length bytes = rw (halves .1) (omega (arith, known-length kind known, w)) in
       rw (good, le-ltb (length bytes) (place + lengthAt bytes place) t, m, e, halves .0, halves .1)
 
-not-both : (a b : Bool) → (a ≡ false → b ≡ true → ⊥) → not a && b ≡ false
-not-both true b f = refl
-not-both false false f = refl
-not-both false true f = absurd (f refl refl)
-
 -- a head that is no known kind's
 pub header-bad : (bytes : List ℕ) (place : ℕ) {head : ℕ} → head ≡ number bytes place 4
     → (head ≡ headOf 1 → ⊥) → (head ≡ headOf 2 → ⊥) → (head ≡ headOf 3 → ⊥) → (head ≡ headOf 4 → ⊥) → Header.Bad ≡ headerAt bytes place
 unfolding headerAt
-header-bad bytes place {head} n a b c d = rw (not-both (eqb (kindLength (kindAt bytes place)) 0) _ never) where
-  other : eqb (lengthAt bytes place) (kindLength (kindAt bytes place)) ≡ true → (kind : ℕ) → (head ≡ headOf kind → ⊥) → eqb (kindAt bytes place) kind ≡ false
-  other l kind f =
-      let t : lengthAt bytes place ≡ kindLength (kindAt bytes place) = eqb-true _ _ l in
-      ne-eqb (kindAt bytes place) kind (λ e. f (omega (arith, n, number-four bytes place, t, ap headOf e)))
-
-  never : eqb (kindLength (kindAt bytes place)) 0 ≡ false → eqb (lengthAt bytes place) (kindLength (kindAt bytes place)) ≡ true → ⊥
-  never k l =
-      let none : kindLength (kindAt bytes place) ≡ 0 = simp (other l 1 a, other l 2 b, other l 3 c, other l 4 d) in
-      true≢false (sym (eq-eqb _ 0 none) ∙ k)
+header-bad bytes place n a b c d = rw (length-other (kindAt bytes place) (drop place bytes) (lengthAt bytes place) (omega (arith, n, number-four bytes place)) a b c d)

@@ -1,8 +1,9 @@
 -- Numbers of 2, 4 and 8 bytes, each from its two halves, and a byte.
-use Prim.Native.Nat.{ℕ, suc, _+_, _*_, _≤_}
-use mathlib.Core.Path.{_≡_, sym, _∙_}
+use Prim.Native.Nat.{ℕ, zero, suc, _+_, _*_, _≤_}
+use mathlib.Core.Path.{_≡_, refl, sym, _∙_}
 use mathlib.Core.List.{List}
-use lib.ListN.{length, getD, List·getD-eq-default}
+use lib.ListN.{length, drop, getD, List·getD-eq-default}
+use lib.Seq.{getD-drop}
 use native.Mathlib.Omega.{arith}
 use Rattle.records.specs.Fields.{number}
 
@@ -25,3 +26,11 @@ number-four bytes place = let e : place + 2 ≡ suc (suc place) = omega arith in
 pub number-eight : (bytes : List ℕ) (place : ℕ) → number bytes place 4 + 4_294_967_296 * number bytes (place + 4) 4 ≡ number bytes place 8
 unfolding number
 number-eight bytes place = let e : place + 4 ≡ suc (suc (suc (suc place))) = omega arith in rw e (omega arith)
+
+-- behind the first k bytes
+pub number-moved : (n k : ℕ) (bytes : List ℕ) (place : ℕ) → number (drop k bytes) place n ≡ number bytes (k + place) n
+unfolding number
+number-moved zero k bytes place = refl
+number-moved (suc n) k bytes place =
+    let e : k + suc place ≡ suc (k + place) = omega arith in
+    rw (getD-drop k bytes place 0, number-moved n k bytes (suc place), e)

@@ -5,15 +5,17 @@ use mathlib.Core.Path.{_≡_, refl, sym, _∙_, ap}
 use mathlib.Core.List.{List, _++_}
 use lib.Dec.{leb, ltb}
 use lib.ListN.{length, drop, length-append, length-drop, List·getD-append}
-use lib.Seq.{take-append-le, drop-append-le, getD-drop, drop-drop}
+use lib.Seq.{take-append-le, drop-append-le, drop-drop}
 use native.Mathlib.Omega.{arith}
 use borrow.Author.Tests.{le-ltb, lt-ltb, ltb-true, ltb-false, leb-true, leb-false}
 use Rattle.lists.specs.Tests.{neither}
-use Rattle.records.specs.declared.{Record.Record, Read.Read, Piece.Piece, walk.Header.Header}
+use Rattle.records.specs.declared.{Record.Record, Piece.Piece, walk.Header.Header}
 use Rattle.records.specs.Fields.{number, headerLength, recordOf}
-use Rattle.records.specs.Walk.{lengthAt, kindAt, partAt, isFaulty, recordAt}
+use Rattle.records.specs.Numbers.{number-moved}
+use Rattle.records.specs.Lengths.{length-front}
+use Rattle.records.specs.Walk.{Read, lengthAt, kindAt, partAt, isHeader, isCut, isFaulty, recordAt}
 use Rattle.records.specs.Headers.{headerAt, headerRead, read-header}
-use Rattle.records.specs.Reads.{isHeader, isCut, faulty-whole, read-end, read-fault, read-record, good-record}
+use Rattle.records.specs.Reads.{faulty-whole, read-end, read-fault, read-record, good-record}
 
 -- the header isn't whole yet, or it is good and its record isn't
 abbrev pub needsMore : List ℕ → ℕ → Bool
@@ -67,7 +69,9 @@ number-front zero bytes more place h = refl
 number-front (suc n) bytes more place h = rw (List·getD-append bytes more 0 place (omega arith), number-front n bytes more (suc place) (omega arith))
 
 header-front : (bytes more : List ℕ) (place : ℕ) → place + headerLength ≤ length bytes → isHeader (bytes ++ more) place ≡ isHeader bytes place
-header-front bytes more place h = rw (number-front 2 bytes more place (omega arith), number-front 2 bytes more (place + 2) (omega arith))
+header-front bytes more place h =
+    rw (number-front 2 bytes more place (omega arith), number-front 2 bytes more (place + 2) (omega arith), drop-append-le place bytes more (omega arith))
+    (length-front (kindAt bytes place) (drop place bytes) more (lengthAt bytes place))
 
 part-front : (bytes more : List ℕ) (place : ℕ) → headerLength < lengthAt bytes place → place + lengthAt bytes place ≤ length bytes
     → partAt (bytes ++ more) place ≡ partAt bytes place
@@ -112,13 +116,6 @@ movedBy k (Read.Record r next) = Read.Record r (k + next)
 movedBy k Read.Fault = Read.Fault
 movedBy k Read.End = Read.End
 
-number-moved : (n k : ℕ) (bytes : List ℕ) (place : ℕ) → number (drop k bytes) place n ≡ number bytes (k + place) n
-unfolding number
-number-moved zero k bytes place = refl
-number-moved (suc n) k bytes place =
-    let e : k + suc place ≡ suc (k + place) = omega arith in
-    rw (getD-drop k bytes place 0, number-moved n k bytes (suc place), e)
-
 further : (k place n : ℕ) → k + (place + n) ≡ k + place + n
 further k place n = omega arith
 
@@ -134,6 +131,7 @@ faulty-moved k bytes place h =
       length-drop k bytes,
       number-moved 2 k bytes place,
       number-moved 2 k bytes (place + 2),
+      drop-drop place k bytes,
       test-moved k (length bytes) (place + headerLength) h,
       test-moved k (length bytes) (place + lengthAt bytes (k + place)) h,
       further k place 2,

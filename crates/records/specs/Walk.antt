@@ -2,10 +2,10 @@
 use Prim.Native.Nat.{ℕ, zero, suc, _+_, _-_}
 use mathlib.Core.Bool.{Bool, true, false, cond, not, _||_}
 use mathlib.Core.List.{List, [], _∷_}
-use lib.Dec.{eqb, leb, ltb}
+use lib.Dec.{leb, ltb}
 use lib.ListN.{length, take, drop}
-use Rattle.records.specs.declared.{Record.Record, Read.Read}
-use Rattle.records.specs.Fields.{number, headerLength, kindLength, recordOf}
+use Rattle.records.specs.declared.{Record.Record as AnyRecord}
+use Rattle.records.specs.Fields.{number, headerLength, isLength, recordOf}
 
 abbrev pub lengthAt : List ℕ → ℕ → ℕ
 lengthAt bytes place = number bytes place 2
@@ -17,15 +17,24 @@ kindAt bytes place = number bytes (place + 2) 2
 abbrev pub partAt : List ℕ → ℕ → List ℕ
 partAt bytes place = take (lengthAt bytes place - headerLength) (drop (place + headerLength) bytes)
 
--- an unknown kind, a length that is not the kind's, or a cut record
-abbrev pub isFaulty : List ℕ → ℕ → Bool
-isFaulty bytes place =
-    ltb (length bytes) (place + headerLength)
-    || eqb (kindLength (kindAt bytes place)) 0
-    || not (eqb (lengthAt bytes place) (kindLength (kindAt bytes place)))
-    || ltb (length bytes) (place + lengthAt bytes place)
+-- a known kind, and a length that is right for it
+abbrev pub isHeader : List ℕ → ℕ → Bool
+isHeader bytes place = isLength (kindAt bytes place) (drop place bytes) (lengthAt bytes place)
 
--- what stands at a place
+-- the file ends before the record does
+abbrev pub isCut : List ℕ → ℕ → Bool
+isCut bytes place = ltb (length bytes) (place + lengthAt bytes place)
+
+-- a cut header, an unknown kind, a length that is not the kind's, or a cut record
+abbrev pub isFaulty : List ℕ → ℕ → Bool
+isFaulty bytes place = ltb (length bytes) (place + headerLength) || not (isHeader bytes place) || isCut bytes place
+
+-- what stands at a place: a record and the place behind it, a fault, or the end
+pub data Read : Type 0 where
+  Record : AnyRecord → ℕ → Read
+  Fault : Read
+  End : Read
+
 unfoldable pub recordAt : List ℕ → ℕ → Read
 recordAt bytes place =
     cond (leb (length bytes) place) Read.End
@@ -34,13 +43,13 @@ recordAt bytes place =
 
 -- the records of a file, and whether a fault ended the walk
 pub record Walk : Type 0 where
-  pub records : List Record
+  pub records : List AnyRecord
   pub faulty : Bool
 
 abbrev pub ended : Bool → Walk
 ended faulty = record { records = []; faulty = faulty }
 
-abbrev pub after : Record → Walk → Walk
+abbrev pub after : AnyRecord → Walk → Walk
 after r w = record { records = r ∷ w .records; faulty = w .faulty }
 
 -- what was read, and the walk from the next place on

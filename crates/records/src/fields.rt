@@ -1,44 +1,15 @@
 // The fields of a record, little-endian: a reader per kind, over the part of the file that starts at the record's fifth byte (D1).
 use crate::Deletion;
+use crate::layout::AuctionPart;
+use crate::layout::DeletePart;
+use crate::layout::OrderPart;
+use crate::layout::StartPart;
 use terms::Entry;
 use terms::Limit;
-use terms::Parameters;
+use terms::Start;
 ghost use mathlib.Core.Path.{_≡_};
 ghost use Prim.Native.Nat.{_+_, _<_, _^_};
 ghost use Rattle.records.specs.Fields.{number, startFields, orderFields, deleteFields, auctionField};
-
-// The kinds of record and their lengths.
-pub struct Kind;
-
-impl Kind {
-    pub const START: u16 = 1;
-
-    pub const ORDER: u16 = 2;
-
-    pub const DELETE: u16 = 3;
-
-    pub const AUCTION: u16 = 4;
-
-    // Length and kind, two bytes each.
-    pub const HEADER_LENGTH: usize = 4;
-
-    pub const START_LENGTH: usize = 24;
-
-    pub const ORDER_LENGTH: usize = 16;
-
-    pub const DELETE_LENGTH: usize = 10;
-
-    pub const AUCTION_LENGTH: usize = 5;
-
-    // Length and kind as one number of four bytes, so that a header is judged by one load and one compare.
-    pub const START_HEAD: u32 = Kind::START_LENGTH as u32 + 65_536 * Kind::START as u32;
-
-    pub const ORDER_HEAD: u32 = Kind::ORDER_LENGTH as u32 + 65_536 * Kind::ORDER as u32;
-
-    pub const DELETE_HEAD: u32 = Kind::DELETE_LENGTH as u32 + 65_536 * Kind::DELETE as u32;
-
-    pub const AUCTION_HEAD: u32 = Kind::AUCTION_LENGTH as u32 + 65_536 * Kind::AUCTION as u32;
-}
 
 // Total: 0 behind the end.
 fn byte(bytes: &[u8], at: usize) -> u8
@@ -74,15 +45,15 @@ fn eight(bytes: &[u8], at: usize) -> u64
     low + 4_294_967_296 * high
 }
 
-pub(crate) fn start_fields(part: &[u8]) -> Parameters
+pub(crate) fn start_fields(part: &[u8]) -> Start
     ensures { λ r. ⌜ r ≡ startFields (now (part .entry)) ⌝ }
 {
-    Parameters {
-        step: four(part, 0),
-        reference: four(part, 4),
-        factor: two(part, 8),
-        threshold: two(part, 10),
-        most: eight(part, 12),
+    Start {
+        step: four(part, StartPart::STEP),
+        reference: four(part, StartPart::REFERENCE),
+        factor: two(part, StartPart::FACTOR),
+        threshold: two(part, StartPart::THRESHOLD),
+        most: eight(part, StartPart::MOST),
     }
 }
 
@@ -90,11 +61,11 @@ pub(crate) fn order_fields(part: &[u8]) -> Entry
     ensures { λ r. ⌜ r ≡ orderFields (now (part .entry)) ⌝ }
 {
     Entry {
-        member: two(part, 0),
-        side: byte(part, 2),
-        validity: byte(part, 3),
-        quantity: four(part, 4),
-        limit: Limit::from(four(part, 8)),
+        member: two(part, OrderPart::MEMBER),
+        side: byte(part, OrderPart::SIDE),
+        validity: byte(part, OrderPart::VALIDITY),
+        quantity: four(part, OrderPart::QUANTITY),
+        limit: Limit::from(four(part, OrderPart::LIMIT)),
     }
 }
 
@@ -102,13 +73,13 @@ pub(crate) fn delete_fields(part: &[u8]) -> Deletion
     ensures { λ r. ⌜ r ≡ deleteFields (now (part .entry)) ⌝ }
 {
     Deletion {
-        member: two(part, 4),
-        number: four(part, 0),
+        member: two(part, DeletePart::MEMBER),
+        number: four(part, DeletePart::NUMBER),
     }
 }
 
 pub(crate) fn auction_field(part: &[u8]) -> u8
     ensures { λ r. ⌜ r ≡ auctionField (now (part .entry)) ⌝ }
 {
-    byte(part, 0)
+    byte(part, AuctionPart::WHICH)
 }

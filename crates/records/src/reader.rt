@@ -1,8 +1,8 @@
-// The walk over a lent file: a thin struct of the file and the place reached, above `record_at`.
-use crate::Read;
-use crate::walk::record_at;
+// The walk over a lent file: a thin struct of the file and the place reached, above `piece_at`.
+use crate::Piece;
+use crate::walk::piece_at;
 ghost use mathlib.Core.Path.{_≡_};
-ghost use Rattle.records.specs.Walk.{recordAt};
+ghost use Rattle.records.specs.Pieces.{pieceAt};
 
 pub struct Reader<'a> {
     pub file: &'a [u8],
@@ -10,26 +10,17 @@ pub struct Reader<'a> {
 }
 
 impl<'a> Reader<'a> {
-    pub fn new(file: &'a [u8]) -> Reader<'a>
-        ensures { λ r. ⌜ (r .file ≡ file .entry) × (r .place ≡ 0) ⌝ }
+    // What stands at the place reached. `ended` says that no more bytes will come.
+    pub fn next(self, ended: bool) -> Piece
+        ensures { λ r. ⌜ r ≡ pieceAt (now (self .entry .file)) (self .entry .place) ended ⌝ }
     {
-        Reader { file, place: 0 }
+        piece_at(self.file, self.place, ended)
     }
+}
 
-    // What stands at the place reached.
-    pub fn next(self) -> Read
-        ensures { λ r. ⌜ r ≡ recordAt (now (self .entry .file)) (self .entry .place) ⌝ }
-    {
-        record_at(self.file, self.place)
-    }
-
-    // The reader behind a record that was read.
-    pub fn moved(self, place: usize) -> Reader<'a>
-        ensures { λ r. ⌜ (r .file ≡ self .entry .file) × (r .place ≡ place) ⌝ }
-    {
-        Reader {
-            file: self.file,
-            place,
-        }
-    }
+// What a reader finds at a place; who asks holds no reader.
+pub fn read_at(bytes: &[u8], place: usize, ended: bool) -> Piece
+    ensures { λ r. ⌜ r ≡ pieceAt (now (bytes .entry)) place ended ⌝ }
+{
+    Reader { file: bytes, place }.next(ended)
 }

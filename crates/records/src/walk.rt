@@ -1,18 +1,16 @@
 // What stands at a place of a file: a record, a fault or the end (01 "Session file").
 use crate::Piece;
-use crate::Read;
 use crate::Record;
-use crate::fields::Kind;
 use crate::fields::auction_field;
 use crate::fields::delete_fields;
 use crate::fields::four;
 use crate::fields::order_fields;
 use crate::fields::start_fields;
+use crate::layout::Kind;
 ghost use mathlib.Core.Path.{_≡_};
 ghost use Prim.Native.Nat.{_+_, _≤_};
 ghost use lib.ListN.{length};
 ghost use Rattle.records.specs.Fields.{headerLength};
-ghost use Rattle.records.specs.Walk.{recordAt};
 ghost use Rattle.records.specs.Headers.{headerAt};
 ghost use Rattle.records.specs.Pieces.{pieceAt};
 
@@ -64,34 +62,15 @@ fn header_at(bytes: &[u8], place: usize) -> Header
     }
 }
 
-// Total: behind the end nothing stands.
-pub fn record_at(bytes: &[u8], place: usize) -> Read
-    ensures { λ r. ⌜ r ≡ recordAt (now (bytes .entry)) place ⌝ }
-{
-    if bytes.len() <= place {
-        return Read::End;
-    }
-    if bytes.len() - place < Kind::HEADER_LENGTH {
-        return Read::Fault;
-    }
-    match header_at(bytes, place) {
-        Header::Record(record, next) => Read::Record(record, next),
-        Header::Cut => Read::Fault,
-        Header::Bad => Read::Fault,
-    }
-}
-
-// `ended` says that no more bytes will come.
-pub fn piece_at(bytes: &[u8], place: usize, ended: bool) -> Piece
-    requires { ⌜ place ≤ length (now bytes) ⌝ }
+// Total: behind the end nothing stands. `ended` says that no more bytes will come.
+pub(crate) fn piece_at(bytes: &[u8], place: usize, ended: bool) -> Piece
     ensures { λ r. ⌜ r ≡ pieceAt (now (bytes .entry)) place ended ⌝ }
 {
-    let left = bytes.len() - place;
-    if left < Kind::HEADER_LENGTH {
-        if ended {
-            return if left == 0 { Piece::End } else { Piece::Fault };
-        }
-        return Piece::Waits;
+    if bytes.len() <= place {
+        return if ended { Piece::End } else { Piece::Waits };
+    }
+    if bytes.len() - place < Kind::HEADER_LENGTH {
+        return if ended { Piece::Fault } else { Piece::Waits };
     }
     match header_at(bytes, place) {
         Header::Record(record, next) => Piece::Record(record, next),

@@ -12,8 +12,8 @@ use borrow.Author.Tests.{ltb-true}
 use Rattle.session.specs.declared.{Session.Session}
 use Rattle.session.specs.Entry.{freshSession}
 use Rattle.session.specs.Sound.{Sound, fresh-sound}
-use Rattle.records.specs.declared.{Record.Record, Read.Read}
-use Rattle.records.specs.Walk.{Walk, recordAt, after, goOn, walkFrom}
+use Rattle.records.specs.declared.{Record.Record}
+use Rattle.records.specs.Walk.{Walk, Read, recordAt, after, goOn, walkFrom}
 use Rattle.records.specs.Ends.{reads-suffice}
 use Rattle.records.specs.Pieces.{needsMore, settled-read, movedBy, moved-read}
 use Rattle.lines.specs.Put.{put, put-length}

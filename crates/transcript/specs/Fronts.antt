@@ -6,8 +6,8 @@ use mathlib.Core.List.{List}
 use native.Mathlib.Numerals.{add-one}
 use lib.ListN.{length}
 use borrow.Author.Tests.{lt-ltb, le-ltb}
-use Rattle.records.specs.Walk.{recordAt}
-use Rattle.records.specs.declared.{Read.Read, Piece.Piece}
+use Rattle.records.specs.Walk.{Read, recordAt}
+use Rattle.records.specs.declared.{Piece.Piece}
 use Rattle.records.specs.Pieces.{needsMore, pieceOf, pieceAt}
 use Rattle.lines.specs.Line.{faultLine, endLine}
 use Rattle.lines.specs.Put.{Wrote, put-then}

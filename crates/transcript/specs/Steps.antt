@@ -67,7 +67,7 @@ step-room place s r =
     omega (arith, length-append (lineOf place (done .answer)) (tradeLines (done .trades)), line-length place (done .answer), trades-room (done .trades), step-trades s r)
 
 pub step-sound : (s : Session) (r : Record) → Sound s → Sound (step s r .session)
-step-sound s (Record.Start p) h = started-sound s p h
+step-sound s (Record.Start p) h = started-sound s _ h
 step-sound s (Record.Order e) h = entered-sound s e h
 step-sound s (Record.Delete d) h = deleted-sound s (d .number) (d .member) h
 step-sound s (Record.Auction which) h = auctioned-sound s which lent h

@@ -9,8 +9,8 @@ use native.Mathlib.Omega.{arith}
 use borrow.Author.Tests.{leb-true, leb-false, ltb-false}
 use Rattle.session.specs.declared.{Session.Session}
 use Rattle.session.specs.Sound.{Sound}
-use Rattle.records.specs.declared.{Record.Record, Read.Read}
-use Rattle.records.specs.Walk.{recordAt}
+use Rattle.records.specs.declared.{Record.Record}
+use Rattle.records.specs.Walk.{Read, recordAt}
 use Rattle.records.specs.Reads.{read-end}
 use Rattle.records.specs.Ends.{next-place}
 use Rattle.records.specs.Pieces.{needsMore}

@@ -5,8 +5,8 @@ use mathlib.Core.List.{List, [], _++_}
 use lib.Dec.{ltb}
 use lib.ListN.{length, take}
 use Rattle.session.specs.declared.{Session.Session}
-use Rattle.records.specs.declared.{Record.Record, Read.Read}
-use Rattle.records.specs.Walk.{recordAt}
+use Rattle.records.specs.declared.{Record.Record}
+use Rattle.records.specs.Walk.{Read, recordAt}
 use Rattle.records.specs.Pieces.{needsMore}
 use Rattle.lines.specs.Lengths.{lineRoom}
 use Rattle.lines.specs.Put.{put}

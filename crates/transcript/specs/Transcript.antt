@@ -5,6 +5,7 @@ use mathlib.Core.List.{List, [], _∷_, _++_}
 use lib.ListN.{replicate}
 use Rattle.terms.specs.Bounds.{tradeListLength}
 use Rattle.terms.specs.Orders.{auctionOf}
+use Rattle.terms.specs.Parameters.{parametersFrom}
 use Rattle.terms.specs.declared.orders.{Auction.Auction, AuctionMade.AuctionMade}
 use Rattle.trades.specs.declared.{Trade.Trade}
 use Rattle.session.specs.declared.{Session.Session, Started.Started, Entered.Entered, Deleted.Deleted, Auctioned.Auctioned}
@@ -44,7 +45,7 @@ abbrev pub auctionStep : Auctioned → List Trade → Step
 auctionStep r trades = record { session = r .session; answer = Answer.Auction (r .answer) (r .result); trades = trades }
 
 abbrev pub step : Session → Record → Step
-step s (Record.Start p) = startStep (started s p)
+step s (Record.Start p) = startStep (started s (parametersFrom (p .step) (p .reference) (p .factor) (p .threshold) (p .most)))
 step s (Record.Order e) = orderStep (entered s e)
 step s (Record.Delete d) = deleteStep (deleted s (d .number) (d .member))
 step s (Record.Auction which) =

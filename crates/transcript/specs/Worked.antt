@@ -3,7 +3,7 @@ use Prim.Native.Nat.{ℕ}
 use mathlib.Core.Path.{_≡_, refl}
 use mathlib.Core.List.{List, [], _∷_}
 use Rattle.worked.specs.Computing.{computing}
-use Rattle.records.specs.Fields.{number}
+use Rattle.records.specs.Fields.{number, isLength}
 use Rattle.records.specs.Walk.{recordAt, walkFrom}
 use Rattle.lines.specs.Text.{digits}
 use Rattle.transcript.specs.Transcript.{linesFrom, printed}
@@ -34,7 +34,7 @@ workedOutput =
     ∷ []
 
 pub worked : printed workedFile ≡ workedOutput
-unfolding computing number recordAt walkFrom digits linesFrom
+unfolding computing number isLength recordAt walkFrom digits linesFrom
 worked = refl
 
 -- an opening before any start, and a record that is cut: an answer, a fault at its place, and a count without it
@@ -49,10 +49,10 @@ cutOutput =
     ∷ []
 
 pub cut : printed cutFile ≡ cutOutput
-unfolding computing number recordAt walkFrom digits linesFrom
+unfolding computing number isLength recordAt walkFrom digits linesFrom
 cut = refl
 
 -- an empty file prints `end 0`
 pub empty : printed [] ≡ 101 ∷ 110 ∷ 100 ∷ 32 ∷ 48 ∷ 10 ∷ []
-unfolding computing number recordAt walkFrom digits linesFrom
+unfolding computing number isLength recordAt walkFrom digits linesFrom
 empty = refl

@@ -9,7 +9,7 @@ use session::Change;
 use session::Session;
 pub use tell::told;
 pub use tell::transcribed;
-use terms::Parameters;
+use terms::Start;
 
 // A session after a record whose lines are written, and the place behind them.
 pub struct Stepped {
@@ -44,6 +44,6 @@ pub struct Telling {
 pub enum Doing {
     Refused(Answer),
     Done(Done, Change),
-    Start(Parameters),
+    Start(Start),
     Auction(u8),
 }

@@ -16,11 +16,12 @@ use session::delete_effect;
 use session::order_effect;
 use terms::Parameters;
 use terms::Place;
+use terms::Start;
 ghost use mathlib.Core.Path.{_≡_};
 ghost use Prim.Native.Nat.{_+_, _≤_};
 ghost use lib.ListN.{length};
 ghost use Rattle.terms.specs.Bounds.{tradeListLength};
-ghost use Rattle.records.specs.declared.Record.the-variants.{Start, Auction as Auction·record};
+ghost use Rattle.records.specs.declared.Record.the-variants.{Start as Start·record, Auction as Auction·record};
 ghost use Rattle.book.specs.Hints.{Numbered};
 ghost use Rattle.session.specs.Sound.{Sound};
 ghost use Rattle.lines.specs.Lengths.{lineRoom};
@@ -81,13 +82,13 @@ pub(crate) fn doing_of<'a>(
 
 pub(crate) fn start_written(
     session: Session,
-    p: Parameters,
+    p: Start,
     place: u64,
     out: &mut [u8],
     at: usize,
 ) -> Stepped
     requires { ⌜ Sound session × (at + lineRoom ≤ length (now out)) ⌝ }
-    ensures { λ r. ⌜ WroteStep place (now (out .entry)) (now (out .exit)) at r (step session (Start p)) ⌝ }
+    ensures { λ r. ⌜ WroteStep place (now (out .entry)) (now (out .exit)) at r (step session (Start·record p)) ⌝ }
 {
     let r = session.start(p.step, p.reference, p.factor, p.threshold, p.most);
     let end = line_of(out, at, place, Answer::Start(r.answer));

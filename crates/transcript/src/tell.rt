@@ -21,7 +21,7 @@ use lines::line_of;
 use places::WORD_PLACES;
 use places::put_word;
 use records::Piece;
-use records::piece_at;
+use records::read_at;
 use session::Session;
 use trades::Trade;
 ghost use mathlib.Core.Path.{_≡_};
@@ -37,13 +37,12 @@ ghost use Rattle.transcript.specs.Told.{front as Told·front, recordsTol
 const RECORD_ROOM: usize = LINE_ROOM + TRADE_ROOM * Trade::MOST;
 
 fn front(bytes: &[u8], place: usize, ended: bool, room: usize) -> Front
-    requires { ⌜ place ≤ length (now bytes) ⌝ }
     ensures { λ r. ⌜ r ≡ Told·front (now (bytes .entry)) place ended room ⌝ }
 {
     if room < RECORD_ROOM {
         return Front::Stop(Stop::Full);
     }
-    let piece = piece_at(bytes, place, ended);
+    let piece = read_at(bytes, place, ended);
     match piece {
         Piece::Record(record, next) => Front::Record(record, next),
         Piece::Waits => Front::Stop(Stop::Waits),

@@ -8,14 +8,14 @@ use Rattle.transcript.proofs.tell.front.Statement.{statement}
 use Rattle.transcript.proofs.tell.front.Tie as tie
 
 -- with room, the front is the piece's
-from-piece : (c : tie.After-piece-at) {p : Piece} → c .piece-at .result ≡ p → let a = c .before .before .before .args in frontFrom p ≡ front (a .bytes .now) (a .place) (a .ended) (a .room)
-from-piece c e = let a = c .before .before .before .args in front-piece (a .bytes .now) (a .place) (a .ended) (c .before .if1 .left) (sym e ∙ c .piece-at .ensures)
+from-piece : (c : tie.After-read-at) {p : Piece} → c .read-at .result ≡ p → let a = c .before .before .before .args in frontFrom p ≡ front (a .bytes .now) (a .place) (a .ended) (a .room)
+from-piece c e = let a = c .before .before .before .args in front-piece (a .bytes .now) (a .place) (a .ended) (c .before .if1 .left) (sym e ∙ c .read-at .ensures)
 
 returns : tie.Need-returns
 returns c = let a = c .before .before .args in front-full (a .bytes .now) (a .place) (a .ended) (c .if1 .taken)
 
-piece-at-requires : tie.Need-piece-at-requires
-piece-at-requires c κs = search needs
+read-at-requires : tie.Need-read-at-requires
+read-at-requires c κs = search needs
 
 enum-known-piece : tie.Need-enum-known-piece
 enum-known-piece c = search needs
@@ -46,7 +46,7 @@ front-spec =
     tie.close
     (tie.spec
     returns
-    piece-at-requires
+    read-at-requires
     enum-known-piece
     enum-told
     enum-told-2

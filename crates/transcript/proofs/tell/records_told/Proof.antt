@@ -71,7 +71,7 @@ sub-front : tie.Need-sub-front Inv-loop μ-loop
 sub-front c = let h = c .before .loop .inv .0 in omega (arith, h .at-within)
 
 front-requires : tie.Need-front-requires Inv-loop μ-loop
-front-requires c κs = c .before .loop .inv .0 .place-within
+front-requires c κs = search needs
 
 enum-known-next : tie.Need-enum-known-next Inv-loop μ-loop
 enum-known-next c = search needs

@@ -1,0 +1,63 @@
+-- The lengths of records: what `isLength` lets pass, and how a header shows it as one number.
+use Prim.Native.Nat.{ℕ, _+_, _*_, _<_}
+use mathlib.Core.Bool.{Bool, true, false, not, _&&_, true≢false}
+use mathlib.Core.Path.{_≡_, refl, sym, _∙_, ap}
+use mathlib.Core.List.{List, _++_}
+use lib.Dec.{eqb}
+use native.Mathlib.Omega.{arith}
+use borrow.Author.Tests.{eq-eqb, ne-eqb, eqb-true}
+use Rattle.records.specs.Fields.{headerLength, kindLength, isLength}
+
+-- a kind's length and the kind as one number of four bytes
+abbrev pub headOf : ℕ → ℕ
+headOf kind = kindLength kind + 65_536 * kind
+
+-- every known kind has a field, and its length two bytes
+pub known-length : (kind : ℕ) → eqb (kindLength kind) 0 ≡ false → (headerLength < kindLength kind) × (kindLength kind < 65_536)
+known-length kind h = go (eqb kind 1) (eqb kind 2) (eqb kind 3) (eqb kind 4) refl refl refl refl where
+  go : (a b c d : Bool) → eqb kind 1 ≡ a → eqb kind 2 ≡ b → eqb kind 3 ≡ c → eqb kind 4 ≡ d → (headerLength < kindLength kind) × (kindLength kind < 65_536)
+  go true b c d p q r s = rw p (omega arith)
+  go false true c d p q r s = rw (p, q) (omega arith)
+  go false false true d p q r s = rw (p, q, r) (omega arith)
+  go false false false true p q r s = rw (p, q, r, s) (omega arith)
+  go false false false false p q r s = absurd (true≢false (rw (p, q, r, s) at h))
+
+both : (a b : Bool) → not a && b ≡ true → (a ≡ false) × (b ≡ true)
+both true b h = absurd (true≢false (sym h))
+both false b h = (refl, h)
+
+-- what isLength says: a known kind, and its length
+length-is : (kind : ℕ) (bytes : List ℕ) (length : ℕ) → isLength kind bytes length ≡ true → (eqb (kindLength kind) 0 ≡ false) × (length ≡ kindLength kind)
+unfolding isLength
+length-is kind bytes length h = let n = both (eqb (kindLength kind) 0) (eqb length (kindLength kind)) h in (n .0, eqb-true _ _ (n .1))
+
+pub length-above : (kind : ℕ) (bytes : List ℕ) (length : ℕ) → isLength kind bytes length ≡ true → headerLength < length
+length-above kind bytes length h = let n = length-is kind bytes length h in omega (arith, known-length kind (n .0))
+
+-- more bytes behind change nothing
+pub length-front : (kind : ℕ) (bytes more : List ℕ) (length : ℕ) → isLength kind (bytes ++ more) length ≡ isLength kind bytes length
+unfolding isLength
+length-front kind bytes more length = refl
+
+-- a known kind's own
+pub length-known : (kind : ℕ) (bytes : List ℕ) → eqb (kindLength kind) 0 ≡ false → isLength kind bytes (kindLength kind) ≡ true
+unfolding isLength
+length-known kind bytes known = rw known (eq-eqb (kindLength kind) (kindLength kind) refl)
+
+not-passed : (a : Bool) → (a ≡ true → ⊥) → a ≡ false
+not-passed true f = absurd (f refl)
+not-passed false f = refl
+
+-- a header that is no known kind's
+pub length-other : (kind : ℕ) (bytes : List ℕ) (length : ℕ) {head : ℕ} → head ≡ length + 65_536 * kind
+    → (head ≡ headOf 1 → ⊥) → (head ≡ headOf 2 → ⊥) → (head ≡ headOf 3 → ⊥) → (head ≡ headOf 4 → ⊥) → isLength kind bytes length ≡ false
+length-other kind bytes length {head} e a b c d = not-passed (isLength kind bytes length) never where
+  other : length ≡ kindLength kind → (k : ℕ) → (head ≡ headOf k → ⊥) → eqb kind k ≡ false
+  other l k f = ne-eqb kind k (λ same. f (omega (arith, e, l, ap headOf same)))
+
+  never : isLength kind bytes length ≡ true → ⊥
+  never h =
+      let n = length-is kind bytes length h in
+      let l = n .1 in
+      let none : kindLength kind ≡ 0 = simp (other l 1 a, other l 2 b, other l 3 c, other l 4 d) in
+      true≢false (sym (eq-eqb _ 0 none) ∙ n .0)
