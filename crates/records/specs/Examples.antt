@@ -3,7 +3,6 @@ use mathlib.Core.Bool.{true, false}
 use mathlib.Core.Path.{_≡_, refl}
 use Prim.Native.Nat.{ℕ}
 use mathlib.Core.List.{List, [], _∷_, _++_}
-use Rattle.terms.specs.declared.orders.{Limit.the-variants.Unlimited}
 use Rattle.records.specs.declared.{Record.Record}
 use Rattle.records.specs.Fields.{number, isLength}
 use Rattle.records.specs.Walk.{Read, recordAt, walkFrom, walk}
@@ -21,7 +20,7 @@ start-read = refl
 abbrev orderBytes : List ℕ
 orderBytes = 16 ∷ 0 ∷ 2 ∷ 0 ∷ 2 ∷ 1 ∷ 2 ∷ 4 ∷ 1 ∷ 0 ∷ 0 ∷ 0 ∷ 0 ∷ 0 ∷ 0 ∷ 0 ∷ []
 
-order-read : recordAt (startBytes ++ orderBytes) 24 ≡ Read.Record (Record.Order (record { member = 258; side = 2; validity = 4; quantity = 1; limit = Unlimited })) 40
+order-read : recordAt (startBytes ++ orderBytes) 24 ≡ Read.Record (Record.Order (record { member = 258; side = 2; validity = 4; quantity = 1; limit = 0 })) 40
 unfolding recordAt isLength number
 order-read = refl
 

@@ -5,7 +5,6 @@ use mathlib.Core.List.{List, [], _∷_}
 use lib.Dec.{eqb}
 use lib.ListN.{getD}
 use Rattle.lists.specs.Sums.{sum}
-use Rattle.terms.specs.Orders.{limitFrom}
 use Rattle.terms.specs.declared.orders.{Entry.Entry}
 use Rattle.terms.specs.declared.parameters.{Start.Start}
 use Rattle.records.specs.declared.{Deletion.Deletion, Record.Record}
@@ -57,30 +56,30 @@ abbrev pub fieldsOf : List ℕ → List ℕ → List ℕ
 fieldsOf ws part = fieldsFrom ws part 0
 
 -- a record from its fields' numbers, in their order
-abbrev pub startFrom : List ℕ → Start
-startFrom ns = record { step = getD ns 0 0; reference = getD ns 1 0; factor = getD ns 2 0; threshold = getD ns 3 0; most = getD ns 4 0 }
+abbrev pub asStart : List ℕ → Start
+asStart ns = record { step = getD ns 0 0; reference = getD ns 1 0; factor = getD ns 2 0; threshold = getD ns 3 0; most = getD ns 4 0 }
 
-abbrev pub orderFrom : List ℕ → Entry
-orderFrom ns = record { member = getD ns 0 0; side = getD ns 1 0; validity = getD ns 2 0; quantity = getD ns 3 0; limit = limitFrom (getD ns 4 0) }
+abbrev pub asEntry : List ℕ → Entry
+asEntry ns = record { member = getD ns 0 0; side = getD ns 1 0; validity = getD ns 2 0; quantity = getD ns 3 0; limit = getD ns 4 0 }
 
-abbrev pub deleteFrom : List ℕ → Deletion
-deleteFrom ns = record { number = getD ns 0 0; member = getD ns 1 0 }
+abbrev pub asDeletion : List ℕ → Deletion
+asDeletion ns = record { number = getD ns 0 0; member = getD ns 1 0 }
 
-abbrev pub auctionFrom : List ℕ → ℕ
-auctionFrom ns = getD ns 0 0
+abbrev pub asAuction : List ℕ → ℕ
+asAuction ns = getD ns 0 0
 
 -- .. and from the part that holds them
 abbrev pub startFields : List ℕ → Start
-startFields part = startFrom (fieldsOf (widths 1) part)
+startFields part = asStart (fieldsOf (widths 1) part)
 
 abbrev pub orderFields : List ℕ → Entry
-orderFields part = orderFrom (fieldsOf (widths 2) part)
+orderFields part = asEntry (fieldsOf (widths 2) part)
 
 abbrev pub deleteFields : List ℕ → Deletion
-deleteFields part = deleteFrom (fieldsOf (widths 3) part)
+deleteFields part = asDeletion (fieldsOf (widths 3) part)
 
 abbrev pub auctionField : List ℕ → ℕ
-auctionField part = auctionFrom (fieldsOf (widths 4) part)
+auctionField part = asAuction (fieldsOf (widths 4) part)
 
 -- the record of a known kind
 abbrev pub recordOf : ℕ → List ℕ → Record

@@ -5,7 +5,6 @@ use crate::layout::DeletePart;
 use crate::layout::OrderPart;
 use crate::layout::StartPart;
 use terms::Entry;
-use terms::Limit;
 use terms::Start;
 ghost use mathlib.Core.Path.{_≡_};
 ghost use Prim.Native.Nat.{_+_, _<_, _^_};
@@ -65,7 +64,7 @@ pub(crate) fn order_fields(part: &[u8]) -> Entry
         side: byte(part, OrderPart::SIDE),
         validity: byte(part, OrderPart::VALIDITY),
         quantity: four(part, OrderPart::QUANTITY),
-        limit: Limit::from(four(part, OrderPart::LIMIT)),
+        limit: four(part, OrderPart::LIMIT),
     }
 }
 

@@ -17,22 +17,11 @@ four-requires c κs = search needs
 four-requires-2 : tie.Need-four-requires-2
 four-requires-2 c κs = search needs
 
-from-requires : tie.Need-from-requires
-from-requires c κs = search needs
-
 returns : tie.Need-returns
 returns c =
-    let two = c .before .before .before .before .before .two in
-    let byte = c .before .before .before .before .byte in
-    let byte2 = c .before .before .before .byte2 in
-    rw (
-      two .ensures,
-      byte .ensures,
-      byte2 .ensures,
-      c .before .before .four .ensures,
-      c .from .ensures,
-      c .before .four2 .ensures,
-    )
+    let two = c .before .before .before .before .two in
+    let byte = c .before .before .before .byte in
+    rw (two .ensures, byte .ensures, c .before .before .byte2 .ensures, c .before .four .ensures, c .four2 .ensures)
 
 pub order-fields-spec : {M : Type 1} → statement M
 order-fields-spec =
@@ -43,5 +32,4 @@ order-fields-spec =
     byte-requires-2
     four-requires
     four-requires-2
-    from-requires
     returns)
