@@ -1,5 +1,5 @@
 -- The book after an auction, from what rests at each place: a taken place where that is nothing is free, and any other keeps its order with that open.
-use Prim.Native.Nat.{ℕ, zero, suc, _+_, _≤_, _<_}
+use Prim.Native.Nat.{ℕ, zero, suc, _+_, _/_, _%_, _≤_, _<_}
 use mathlib.Core.Bool.{Bool, true, false, cond}
 use mathlib.Core.Option.{Option, none, some}
 use mathlib.Core.Logic.{_≢_}
@@ -9,12 +9,12 @@ use native.Mathlib.Numerals.{add-one}
 use native.Mathlib.Omega.{arith}
 use borrow.Author.Tests.{ne-eqb}
 use lib.Dec.{eqb}
-use lib.ListN.{getD}
+use lib.ListN.{getD, set}
 use lib.Seq.{set-getD}
 use Rattle.terms.specs.Bounds.{places}
 use Rattle.terms.specs.Orders.{Resting}
 use Rattle.book.specs.declared.{Book.Book, Values.Values}
-use Rattle.places.specs.Places.{isTaken, marked, unmarked}
+use Rattle.places.specs.Places.{wordPlaces, isTaken, withoutBit, marked, unmarked}
 use Rattle.book.specs.Columns.{valuesAt, valuesOf, orderFrom, orderAt, withLeft, emptyValues, written, stored, cleared}
 use Rattle.book.specs.Resting.{putBack, changedAt, changedTo, changed}
 use Rattle.book.specs.Sound.{SoundBook}
@@ -40,10 +40,10 @@ settled rests b = settledTo rests b places
 
 -- one place on: its order leaves, or rests with what is left, or the place is free
 module _ (rests : List ℕ) (b c : Book) (n : ℕ) (so-far : c ≡ settledTo rests b n) where
-  pub settled-clear : (words : List ℕ) (r : Values) → isTaken (c .taken) n ≡ true → getD rests n 0 ≡ 0 → words ≡ unmarked (c .taken) n → r ≡ emptyValues
-      → written c words n r ≡ settledTo rests b (n + 1)
-  unfolding settledTo cleared
-  settled-clear words r taken nothing e f = rw (add-one, ← so-far, taken, nothing, e, f)
+  pub settled-clear : isTaken (c .taken) n ≡ true → getD rests n 0 ≡ 0 → (free : ℕ) → free ≡ withoutBit (n % wordPlaces) (getD (c .taken) (n / wordPlaces) 0)
+      → (words : List ℕ) → words ≡ set (c .taken) (n / wordPlaces) free → (r : Values) → r ≡ emptyValues → written c words n r ≡ settledTo rests b (n + 1)
+  unfolding settledTo cleared unmarked
+  settled-clear taken nothing free f words e r i = rw (e, f, i, add-one, ← so-far, taken, nothing)
 
   pub settled-keep : isTaken (c .taken) n ≡ true → getD rests n 0 ≢ 0 → kept c n (getD rests n 0) ≡ settledTo rests b (n + 1)
   unfolding settledTo

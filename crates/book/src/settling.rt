@@ -3,7 +3,8 @@ use crate::Book;
 use crate::Values;
 use places::WORD_PLACES;
 use places::bit_of;
-use places::unmarked;
+use places::put_word;
+use places::without_bit;
 use terms::Place;
 ghost use mathlib.Core.Path.{_≡_};
 ghost use Rattle.book.specs.Settling.{settled as Settling·settled};
@@ -19,8 +20,8 @@ pub fn settled(mut b: Book, rests: &[u32; Place::COUNT]) -> Book
         if bit_of(word, place % WORD_PLACES) == 1 {
             let rest = rests[place];
             if rest == 0 {
-                let taken = b.taken;
-                b.taken = unmarked(taken, place);
+                let free = without_bit(word, place % WORD_PLACES);
+                put_word(&mut b.taken, place / WORD_PLACES, free);
                 b.number[place] = none.number;
                 b.member[place] = none.member;
                 b.side[place] = none.side;

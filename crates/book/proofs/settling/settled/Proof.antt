@@ -38,8 +38,11 @@ mul-rest c = search needs
 element-copy-out-rest : tie.Need-element-copy-out-rest Inv-loop μ-loop
 element-copy-out-rest c = search needs
 
-unmarked-requires : tie.Need-unmarked-requires Inv-loop μ-loop
-unmarked-requires c κs = search needs
+without-bit-requires : tie.Need-without-bit-requires Inv-loop μ-loop
+without-bit-requires c κs = search needs
+
+put-word-requires : tie.Need-put-word-requires Inv-loop μ-loop
+put-word-requires c κs = search needs
 
 mul-b : tie.Need-mul-b Inv-loop μ-loop
 mul-b c = search needs
@@ -89,7 +92,7 @@ loop-again c =
     let so-far = l .loop .inv .1 in
     let test = c .before .bit-of .ensures in
     let step : c .if1 .b ≡ settledTo (l .before .before .args .rests .now) (l .before .before .args .t1) (l .loop .place + 1) = ⊎-elim
-    (λ w. w .5 ∙ settled-clear _ _ (l .loop .b) _ so-far _ (l .before .empty .result) (rw (← test, w .0 .taken)) (w .2 .taken) (w .4 .ensures) (l .before .empty .ensures))
+    (λ w. w .6 ∙ settled-clear _ _ (l .loop .b) _ so-far (rw (← test, w .0 .taken)) (w .2 .taken) _ (w .3 .ensures) _ (w .5 .ensures) (l .before .empty .result) (l .before .empty .ensures))
     (⊎-elim
     (λ w. w .3 ∙ sym (simp set-getD) ∙ settled-keep _ _ (l .loop .b) _ so-far (rw (← test, w .0 .taken)) (w .2 .left))
     (λ w. w .1 ∙ settled-free _ _ (l .loop .b) _ so-far (rw (← test, ne-eqb _ 1 (w .0 .left)))))
@@ -112,7 +115,8 @@ settled-spec =
     bit-of-requires
     mul-rest
     element-copy-out-rest
-    unmarked-requires
+    without-bit-requires
+    put-word-requires
     mul-b
     element-write-b
     mul-b-2
