@@ -1,9 +1,9 @@
 -- Worked examples: lines of 01 "Session file", byte by byte.
 use mathlib.Core.Path.{_≡_, refl}
 use mathlib.Core.List.{[], _∷_}
-use Rattle.lines.specs.declared.{Answer.Answer}
+use Rattle.lines.specs.declared.{Word.Word}
 use Rattle.lines.specs.Text.{digits, decimal}
-use Rattle.lines.specs.Line.{lineOf, tradeLine, faultLine, endLine}
+use Rattle.lines.specs.Line.{lineOf, numberedLine, doneLine, tradeLine, faultLine, endLine}
 
 zero-printed : decimal 0 ≡ 48 ∷ []
 unfolding digits
@@ -14,12 +14,12 @@ unfolding digits
 number-printed = refl
 
 -- 2 order 0 1
-order-printed : lineOf 2 (Answer.Order 0 1) ≡ 50 ∷ 32 ∷ 111 ∷ 114 ∷ 100 ∷ 101 ∷ 114 ∷ 32 ∷ 48 ∷ 32 ∷ 49 ∷ 10 ∷ []
+order-printed : lineOf 2 (doneLine Word.Order 1) ≡ 50 ∷ 32 ∷ 111 ∷ 114 ∷ 100 ∷ 101 ∷ 114 ∷ 32 ∷ 48 ∷ 32 ∷ 49 ∷ 10 ∷ []
 unfolding digits
 order-printed = refl
 
 -- 3 delete 11
-delete-printed : lineOf 3 (Answer.Delete 11) ≡ 51 ∷ 32 ∷ 100 ∷ 101 ∷ 108 ∷ 101 ∷ 116 ∷ 101 ∷ 32 ∷ 49 ∷ 49 ∷ 10 ∷ []
+delete-printed : lineOf 3 (numberedLine Word.Delete 11 0) ≡ 51 ∷ 32 ∷ 100 ∷ 101 ∷ 108 ∷ 101 ∷ 116 ∷ 101 ∷ 32 ∷ 49 ∷ 49 ∷ 10 ∷ []
 unfolding digits
 delete-printed = refl
 

@@ -4,48 +4,70 @@ use mathlib.Core.List.{List, [], _∷_, _++_}
 use native.Mathlib.Omega.{arith}
 use lib.ListN.{length, take, length-append, length-take}
 use Rattle.trades.specs.declared.{Trade.Trade}
-use Rattle.lines.specs.declared.{Answer.Answer}
-use Rattle.lines.specs.Text.{decimal, space, newline, numeral, texts, startWord, orderWord, deleteWord, auctionWord, tradeWord, faultWord, endWord}
+use Rattle.lines.specs.declared.{Word.Word, Line.Line}
+use Rattle.lines.specs.Text.{mostDigits, decimal, space, newline, numeral, numeralRoom, texts, tradeWord, faultWord, endWord}
 use Rattle.lines.specs.Decimal.{decimal-length}
-use Rattle.lines.specs.Line.{numbers, placed, lineOf, tradeLine, tradeLines, faultLine, endLine}
+use Rattle.lines.specs.Line.{wordText, wordNumbers, numbersOf, numbers, worded, lineOf, tradeLine, tradeLines, faultLine, endLine}
 use Rattle.lines.specs.Texts.{texts-length, WroteAll}
+
+-- a word has at most so many letters, and so many numbers follow its answer
+abbrev pub mostLetters : ℕ
+mostLetters = 7
+
+abbrev pub mostNumbers : ℕ
+mostNumbers = 4
+
+-- a word behind a space
+abbrev pub wordRoom : ℕ
+wordRoom = 1 + mostLetters
 
 -- n numbers of 64 bits, each behind a space, and the end of the line
 abbrev pub numbersRoom : ℕ → ℕ
-numbersRoom n = 21 * n + 1
+numbersRoom n = numeralRoom * n + 1
 
--- a place, a space and a word of at most 7 bytes
-abbrev pub placeRoom : ℕ
-placeRoom = 28
+-- a word, its answer and its numbers
+abbrev pub answerRoom : ℕ
+answerRoom = wordRoom + numbersRoom (1 + mostNumbers)
 
--- an answer's line has at most five numbers, a trade's has three
+-- .. behind a place; a trade has three numbers
 abbrev pub lineRoom : ℕ
-lineRoom = placeRoom + numbersRoom 5
+lineRoom = mostDigits + answerRoom
 
 abbrev pub tradeRoom : ℕ
 tradeRoom = length tradeWord + numbersRoom 3
 
 abbrev pub faultRoom : ℕ
-faultRoom = placeRoom + numbersRoom 1
+faultRoom = mostDigits + (wordRoom + numbersRoom 1)
 
 abbrev pub endRoom : ℕ
 endRoom = length endWord + numbersRoom 1
 
-numeral-length : (x : ℕ) → length (numeral x) ≤ 21
+numeral-length : (x : ℕ) → length (numeral x) ≤ numeralRoom
 numeral-length x = omega (arith, decimal-length x)
 
 numbers-length : (xs : List ℕ) → length (numbers xs) ≤ numbersRoom (length xs)
-numbers-length xs = omega (arith, length-append (texts numeral xs) (newline ∷ []), texts-length numeral 21 numeral-length xs)
+numbers-length xs = omega (arith, length-append (texts numeral xs) (newline ∷ []), texts-length numeral numeralRoom numeral-length xs)
 
-placed-length : (place : ℕ) (word xs : List ℕ) → length (placed place word xs) ≤ 21 + length word + numbersRoom (length xs)
-placed-length place word xs =
-    omega (arith, length-append (decimal place ++ space ∷ word) (numbers xs), length-append (decimal place) (space ∷ word), decimal-length place, numbers-length xs)
+worded-length : (place : ℕ) (word xs : List ℕ) → length (decimal place ++ worded word xs) ≤ mostDigits + (1 + length word + numbersRoom (length xs))
+worded-length place word xs =
+    omega (arith, length-append (decimal place) (worded word xs), length-append (space ∷ word) (numbers xs), decimal-length place, numbers-length xs)
 
-pub line-length : (place : ℕ) (answer : Answer) → length (lineOf place answer) ≤ lineRoom
-line-length place (Answer.Start a) = omega (arith, placed-length place startWord (a ∷ []))
-line-length place (Answer.Order a n) = omega (arith, placed-length place orderWord (a ∷ n ∷ []))
-line-length place (Answer.Delete a) = omega (arith, placed-length place deleteWord (a ∷ []))
-line-length place (Answer.Auction a r) = omega (arith, placed-length place auctionWord (a ∷ r .outcome ∷ r .price ∷ r .quantity ∷ r .count ∷ []))
+pub word-length : (w : Word) → length (wordText w) ≤ mostLetters
+word-length Word.Start = omega arith
+word-length Word.Order = omega arith
+word-length Word.Delete = omega arith
+word-length Word.Auction = omega arith
+
+pub word-numbers : (w : Word) → wordNumbers w ≤ mostNumbers
+word-numbers Word.Start = omega arith
+word-numbers Word.Order = omega arith
+word-numbers Word.Delete = omega arith
+word-numbers Word.Auction = omega arith
+
+pub line-length : (place : ℕ) (l : Line) → length (lineOf place l) ≤ lineRoom
+line-length place l =
+    let w = l .word in
+    omega (arith, worded-length place (wordText w) (l .answer ∷ take (wordNumbers w) (numbersOf l)), word-length w, word-numbers w, length-take (wordNumbers w) (numbersOf l))
 
 trade-length : (t : Trade) → length (tradeLine t) ≤ tradeRoom
 trade-length t = omega (arith, length-append tradeWord (numbers (t .buy ∷ t .sell ∷ t .quantity ∷ [])), numbers-length (t .buy ∷ t .sell ∷ t .quantity ∷ []))
@@ -54,11 +76,11 @@ pub trades-room : (ts : List Trade) → length (tradeLines ts) ≤ tradeRoom * l
 trades-room ts = omega (arith, texts-length tradeLine tradeRoom trade-length ts)
 
 pub fault-length : (place : ℕ) → length (faultLine place) ≤ faultRoom
-fault-length place = omega (arith, placed-length place faultWord (1 ∷ []))
+fault-length place = omega (arith, worded-length place faultWord (1 ∷ []))
 
 pub end-length : (count : ℕ) → length (endLine count) ≤ endRoom
 end-length count = omega (arith, length-append endWord (numbers (count ∷ [])), numbers-length (count ∷ []))
 
 -- the first i numbers of a line keep within their room
-pub numbers-within : (old xs out : List ℕ) (at end i : ℕ) → WroteAll numeral old at (take i xs) out end → end ≤ at + 21 * i
-numbers-within old xs out at end i s = omega (arith, s .1 .0, texts-length numeral 21 numeral-length (take i xs), length-take i xs)
+pub numbers-within : (old xs out : List ℕ) (at end i : ℕ) → WroteAll numeral old at (take i xs) out end → end ≤ at + numeralRoom * i
+numbers-within old xs out at end i s = omega (arith, s .1 .0, texts-length numeral numeralRoom numeral-length (take i xs), length-take i xs)

@@ -1,41 +1,50 @@
--- Lines behind a record's place, as the calls write them: the place, a word behind a space, and the rest.
-use Prim.Native.Nat.{ℕ, _≤_, _<_}
-use mathlib.Core.Path.{_≡_}
+-- What stands behind a record's place, as the calls write it: a word behind a space, and numbers.
+use Prim.Native.Nat.{ℕ, zero, suc, _+_, _≤_, _<_}
+use mathlib.Core.Path.{_≡_, refl, subst}
 use mathlib.Core.List.{List, [], _∷_, _++_, append-assoc, append-nil}
-use lib.ListN.{length}
+use native.Mathlib.Omega.{arith}
+use lib.ListN.{length, take}
+use Rattle.lines.specs.declared.{Word.Word, Line.Line}
 use Rattle.lines.specs.Text.{digit, decimal, space, newline}
-use Rattle.lines.specs.Line.{numbers, placed}
+use Rattle.lines.specs.Line.{wordText, wordNumbers, numbersOf, numbers, worded, answerText, numberedLine, numberTold, doneLine}
 use Rattle.lines.specs.Put.{Wrote, put-then}
 use Rattle.lines.specs.Decimal.{digits-small}
 
 -- a word, an answer of one digit and a byte behind it
-abbrev pub answered : List ℕ → ℕ → ℕ → List ℕ
-answered word d byte = space ∷ word ++ (space ∷ digit d ∷ byte ∷ [])
+abbrev pub short : List ℕ → ℕ → ℕ → List ℕ
+short word d byte = space ∷ word ++ (space ∷ digit d ∷ byte ∷ [])
 
--- behind the place
-module _ (old one : List ℕ) (at p place : ℕ) (word : List ℕ) (room : at ≤ length old) (first : Wrote old one at p (decimal place)) where
-  -- a word and numbers
-  pub placed-then : (two new : List ℕ) (q r : ℕ) (xs : List ℕ)
-      → Wrote one two p q (space ∷ word) → Wrote two new q r (numbers xs) → Wrote old new at r (placed place word xs)
-  placed-then two new q r xs second third =
-      put-then old two new at q r (decimal place ++ space ∷ word) (numbers xs) room
-      (put-then old one two at p q (decimal place) (space ∷ word) room first second) third
+-- a word, and then the answer and the numbers that the word has
+pub answered-then : (old one new : List ℕ) (at p r n : ℕ) (l : Line) → at ≤ length old → n ≡ wordNumbers (l .word)
+    → Wrote old one at p (space ∷ wordText (l .word)) → Wrote one new p r (numbers (take (1 + n) (l .answer ∷ numbersOf l))) → Wrote old new at r (answerText l)
+answered-then old one new at p r n l room e first second =
+    let count : 1 + n ≡ suc (wordNumbers (l .word)) = omega (arith, e) in
+    put-then old one new at p r (space ∷ wordText (l .word)) (numbers (l .answer ∷ take (wordNumbers (l .word)) (numbersOf l))) room first
+    (subst (λ (k : ℕ). Wrote one new p r (numbers (take k (l .answer ∷ numbersOf l)))) count second)
 
-  -- a word and an answer of one digit
-  pub answered-then : (new : List ℕ) (r d : ℕ) → d < 10 → Wrote one new p r (answered word d newline) → Wrote old new at r (placed place word (d ∷ []))
-  answered-then new r d h second =
-      rw (digits-small 19 d h, append-assoc) (put-then old one new at p r (decimal place) (answered word d newline) room first second)
+-- a word without numbers tells none
+told-done : (word : Word) (number : ℕ) → answerText (numberedLine word 0 number) ≡ answerText (doneLine word number)
+told-done word number = rw (same (wordNumbers word)) where
+  same : (n : ℕ) → take n (number ∷ 0 ∷ 0 ∷ 0 ∷ []) ≡ take n (numberTold n number ∷ 0 ∷ 0 ∷ 0 ∷ [])
+  same zero = refl
+  same (suc n) = refl
 
-  -- a word, an answer of one digit and a number
-  pub numbered-then : (two three new : List ℕ) (q n r d number : ℕ) → d < 10
-      → Wrote one two p q (answered word d space) → Wrote two three q n (decimal number) → Wrote three new n r (newline ∷ [])
-      → Wrote old new at r (placed place word (d ∷ number ∷ []))
-  numbered-then two three new q n r d number h second third fourth =
-      rw text at
-      (put-then old three new at n r (decimal place ++ answered word d space ++ decimal number) (newline ∷ []) room
-      (put-then old two three at q n (decimal place ++ answered word d space) (decimal number) room
-      (put-then old one two at p q (decimal place) (answered word d space) room first second) third)
-      fourth)
-    where
-      text : decimal place ++ answered word d space ++ decimal number ++ (newline ∷ []) ≡ placed place word (d ∷ number ∷ [])
-      text = rw (digits-small 19 d h, append-nil (decimal number)) (simp append-assoc)
+-- a word with an answer of one digit
+pub short-then : (old new : List ℕ) (at r : ℕ) (word : List ℕ) (d : ℕ) → d < 10 → Wrote old new at r (short word d newline) → Wrote old new at r (worded word (d ∷ []))
+short-then old new at r word d h first = rw (digits-small 19 d h) first
+
+-- a record that was done, by its word
+pub done-then : (old new : List ℕ) (at r : ℕ) (word : Word) (number : ℕ) → Wrote old new at r (answerText (numberedLine word 0 number)) → Wrote old new at r (answerText (doneLine word number))
+done-then old new at r word number first = subst (λ (t : List ℕ). Wrote old new at r t) (told-done word number) first
+
+-- a word with an answer of one digit, and a number
+pub numbered-then : (old one two new : List ℕ) (at p q r : ℕ) (word : List ℕ) (d number : ℕ) → at ≤ length old → d < 10
+    → Wrote old one at p (short word d space) → Wrote one two p q (decimal number) → Wrote two new q r (newline ∷ [])
+    → Wrote old new at r (worded word (d ∷ number ∷ []))
+numbered-then old one two new at p q r word d number room h first second third =
+    subst (λ (t : List ℕ). Wrote old new at r t) text
+    (put-then old two new at q r (short word d space ++ decimal number) (newline ∷ []) room
+    (put-then old one two at p q (short word d space) (decimal number) room first second) third)
+  where
+    text : short word d space ++ decimal number ++ (newline ∷ []) ≡ worded word (d ∷ number ∷ [])
+    text = rw (digits-small 19 d h, append-nil (decimal number)) (simp append-assoc)

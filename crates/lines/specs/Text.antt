@@ -16,9 +16,12 @@ unfoldable pub digits : ℕ → ℕ → List ℕ
 digits zero x = []
 digits (suc n) x = cond (ltb x 10) (digit x ∷ []) (digits n (x / 10) ++ (digit (x % 10) ∷ []))
 
--- a number of 64 bits has at most 20 digits
+-- a number of 64 bits has at most so many digits
+abbrev pub mostDigits : ℕ
+mostDigits = 20
+
 abbrev pub decimal : ℕ → List ℕ
-decimal x = digits 20 x
+decimal x = digits mostDigits x
 
 abbrev pub space : ℕ
 space = 32
@@ -30,26 +33,13 @@ newline = 10
 abbrev pub numeral : ℕ → List ℕ
 numeral x = space ∷ decimal x
 
+abbrev pub numeralRoom : ℕ
+numeralRoom = 1 + mostDigits
+
 -- texts one after another
 abbrev pub texts : {A : Type 0} → (A → List ℕ) → List A → List ℕ
 texts f [] = []
 texts f (x ∷ xs) = f x ++ texts f xs
-
--- s t a r t
-abbrev pub startWord : List ℕ
-startWord = 115 ∷ 116 ∷ 97 ∷ 114 ∷ 116 ∷ []
-
--- o r d e r
-abbrev pub orderWord : List ℕ
-orderWord = 111 ∷ 114 ∷ 100 ∷ 101 ∷ 114 ∷ []
-
--- d e l e t e
-abbrev pub deleteWord : List ℕ
-deleteWord = 100 ∷ 101 ∷ 108 ∷ 101 ∷ 116 ∷ 101 ∷ []
-
--- a u c t i o n
-abbrev pub auctionWord : List ℕ
-auctionWord = 97 ∷ 117 ∷ 99 ∷ 116 ∷ 105 ∷ 111 ∷ 110 ∷ []
 
 -- t r a d e
 abbrev pub tradeWord : List ℕ

@@ -1,35 +1,64 @@
 // The text of an answer, as the session program prints it (01 "Session file").
-use session::AuctionAnswer;
+ghost use mathlib.Core.Path.{_≡_};
+ghost use Rattle.lines.specs.Line.{numberedLine};
 
-mod line;
 mod text;
+mod writer;
 
-pub use line::done_line;
-pub use line::end_line;
-pub use line::fault_line;
-pub use line::line_of;
-pub use line::trade_lines;
+pub use writer::done_line;
+pub use writer::end_line;
+pub use writer::fault_line;
+pub use writer::line_of;
+pub use writer::trade_lines;
 
-// Room that suffices: for a number of 64 bits behind a space, and for a place, a space and a word of at most 7 bytes.
-const NUMBER_ROOM: usize = 21;
+// At most: the digits of a number of 64 bits, and the letters of a word.
+const DIGITS: usize = 20;
 
-const PLACE_ROOM: usize = 28;
+const LETTERS: usize = 7;
 
-// .. for an answer's line, of at most five numbers, and for a trade's, of three behind a word of 5 bytes.
-pub const LINE_ROOM: usize = PLACE_ROOM + 5 * NUMBER_ROOM + 1;
+// Room that suffices: for a number behind a space, and for a word behind one with its answer, its numbers and the line's end.
+const NUMBER_ROOM: usize = 1 + DIGITS;
+
+const ANSWER_ROOM: usize = 1 + LETTERS + (1 + Line::NUMBERS) * NUMBER_ROOM + 1;
+
+// .. behind a record's place, and for a trade's line, of three numbers behind a word of 5 bytes.
+pub const LINE_ROOM: usize = DIGITS + ANSWER_ROOM;
 
 pub const TRADE_ROOM: usize = 5 + 3 * NUMBER_ROOM + 1;
 
-// What a record of a file was answered.
-pub enum Answer {
-    Start(u8),
-    Order(u8, u32),
-    Delete(u8),
-    Auction(u8, AuctionAnswer),
-}
-
-// A record that was done: its answer is 0.
-pub enum Done {
+// The word of a line: the kind of record that it is about.
+pub enum Word {
+    Start,
     Order,
     Delete,
+    Auction,
+}
+
+// What a record was answered: its word says how many of the numbers follow the answer.
+pub struct Line {
+    pub word: Word,
+    pub answer: u64,
+    pub first: u64,
+    pub second: u64,
+    pub third: u64,
+    pub fourth: u64,
+}
+
+impl Line {
+    // At most so many numbers follow an answer.
+    const NUMBERS: usize = 4;
+
+    // With one number to tell, or, where it is 0, with none: as where a record is refused.
+    pub fn numbered(word: Word, answer: u64, number: u64) -> Line
+        ensures { λ r. ⌜ r ≡ numberedLine word answer number ⌝ }
+    {
+        Line {
+            word,
+            answer,
+            first: number,
+            second: 0,
+            third: 0,
+            fourth: 0,
+        }
+    }
 }

@@ -3,7 +3,7 @@ ghost use mathlib.Core.Path.{_≡_};
 ghost use mathlib.Core.List.{_∷_, []};
 ghost use Prim.Native.Nat.{_+_, _≤_, _<_};
 ghost use lib.ListN.{length};
-ghost use Rattle.lines.specs.Text.{decimal, digit, pair, space};
+ghost use Rattle.lines.specs.Text.{mostDigits, decimal, digit, pair, space, numeralRoom};
 ghost use Rattle.lines.specs.Put.{Wrote};
 
 const SPACE: u8 = 32;
@@ -47,7 +47,7 @@ fn count_digits(x: u64) -> usize
 
 // A number in decimal, from its last digit to its first.
 fn put_digits(out: &mut [u8], at: usize, x: u64) -> usize
-    requires { ⌜ at + 20 ≤ length (now out) ⌝ }
+    requires { ⌜ at + mostDigits ≤ length (now out) ⌝ }
     ensures { λ r. ⌜ Wrote (now (out .entry)) (now (out .exit)) at r (decimal x) ⌝ }
 {
     let n = count_digits(x);
@@ -80,7 +80,7 @@ fn put_pair(out: &mut [u8], at: usize, x: u32) -> usize
 
 // A number in decimal. Most numbers of a session are short, and are written with no loop.
 pub fn put_decimal(out: &mut [u8], at: usize, x: u64) -> usize
-    requires { ⌜ at + 20 ≤ length (now out) ⌝ }
+    requires { ⌜ at + mostDigits ≤ length (now out) ⌝ }
     ensures { λ r. ⌜ Wrote (now (out .entry)) (now (out .exit)) at r (decimal x) ⌝ }
 {
     if x < 10 {
@@ -104,7 +104,7 @@ pub fn put_decimal(out: &mut [u8], at: usize, x: u64) -> usize
 
 // A number behind a space.
 pub fn put_number(out: &mut [u8], at: usize, x: u64) -> usize
-    requires { ⌜ at + 21 ≤ length (now out) ⌝ }
+    requires { ⌜ at + numeralRoom ≤ length (now out) ⌝ }
     ensures { λ r. ⌜ Wrote (now (out .entry)) (now (out .exit)) at r (space ∷ decimal x) ⌝ }
 {
     let p = put_byte(out, at, SPACE);

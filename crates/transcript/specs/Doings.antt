@@ -13,19 +13,19 @@ use Rattle.book.specs.Resting.{placeIn}
 use Rattle.session.specs.Entry.{entered, deleted}
 use Rattle.session.specs.Changes.{changed, orderEffect, deleteEffect, orderIn, deleteIn, enteredBy, deletedBy, entered-by, deleted-by, order-place, delete-place}
 use Rattle.records.specs.declared.{Record.Record, Deletion.Deletion}
-use Rattle.lines.specs.declared.{Answer.Answer, Done.Done}
-use Rattle.lines.specs.Line.{answerOf}
+use Rattle.lines.specs.declared.{Word.Word, Line.Line}
+use Rattle.lines.specs.Line.{numberedLine, doneLine}
 use Rattle.transcript.specs.declared.{Doing.Doing, Stepped.Stepped}
 use Rattle.transcript.specs.Transcript.{Step, step, orderStep, deleteStep}
 use Rattle.transcript.specs.Steps.{WroteStep}
 
 abbrev pub orderDoing : Effect → Doing
-orderDoing (Effect.Refused n) = Doing.Refused (Answer.Order n 0)
-orderDoing (Effect.Done c) = Doing.Done Done.Order c
+orderDoing (Effect.Refused n) = Doing.Refused Word.Order n
+orderDoing (Effect.Done c) = Doing.Done Word.Order c
 
 abbrev pub deleteDoing : Effect → Doing
-deleteDoing (Effect.Refused n) = Doing.Refused (Answer.Delete n)
-deleteDoing (Effect.Done c) = Doing.Done Done.Delete c
+deleteDoing (Effect.Refused n) = Doing.Refused Word.Delete n
+deleteDoing (Effect.Done c) = Doing.Done Word.Delete c
 
 abbrev pub doingOf : Record → Phase → Parameters → ℕ → ℕ → List ℕ → List ℕ → List ℕ → Doing
 doingOf (Record.Start p) phase parameters reference given taken numbers members = Doing.Start p
@@ -37,13 +37,13 @@ abbrev pub doingIn : Session → Record → Doing
 doingIn s r = doingOf r (s .phase) (s .parameters) (s .reference) (s .given) (s .book .taken) (s .book .number) (s .book .member)
 
 -- a step without trades
-abbrev pub quiet : Session → Answer → Step
-quiet s a = record { session = s; answer = a; trades = [] }
+abbrev pub quiet : Session → Line → Step
+quiet s l = record { session = s; line = l; trades = [] }
 
 -- by what it does
 abbrev pub Does : Session → Record → Doing → Type 0
-Does s r (Doing.Refused a) = quiet s a ≡ step s r
-Does s r (Doing.Done d c) = (quiet (changed s c) (answerOf d (c .given)) ≡ step s r) × (c .place < places)
+Does s r (Doing.Refused w n) = quiet s (numberedLine w n 0) ≡ step s r
+Does s r (Doing.Done w c) = (quiet (changed s c) (doneLine w (c .given)) ≡ step s r) × (c .place < places)
 Does s r (Doing.Start p) = r ≡ Record.Start p
 Does s r (Doing.Auction which) = r ≡ Record.Auction which
 

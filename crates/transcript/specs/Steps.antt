@@ -30,14 +30,14 @@ WroteStep place old new at r done = (r .session ≡ done .session) × Wrote old 
 
 -- .. of a record without trades: its answer's line is all
 pub wrote-alone : (place : ℕ) (old new : List ℕ) (at : ℕ) (r : Stepped) (did done : Step) → did ≡ done → did .trades ≡ []
-    → r .session ≡ did .session → Wrote old new at (r .at) (lineOf place (did .answer)) → WroteStep place old new at r done
-wrote-alone place old new at r did done e none next w = rw (← e) (next, rw (none, append-nil (lineOf place (did .answer))) w)
+    → r .session ≡ did .session → Wrote old new at (r .at) (lineOf place (did .line)) → WroteStep place old new at r done
+wrote-alone place old new at r did done e none next w = rw (← e) (next, rw (none, append-nil (lineOf place (did .line))) w)
 
 -- .. of one with trades: the line, and theirs behind it
 pub wrote-both : (place : ℕ) (old between new : List ℕ) (at p : ℕ) (r : Stepped) (did done : Step) → at ≤ length old → did ≡ done → r .session ≡ did .session
-    → Wrote old between at p (lineOf place (did .answer)) → Wrote between new p (r .at) (tradeLines (did .trades)) → WroteStep place old new at r done
+    → Wrote old between at p (lineOf place (did .line)) → Wrote between new p (r .at) (tradeLines (did .trades)) → WroteStep place old new at r done
 wrote-both place old between new at p r did done room e next line lines =
-    rw (← e) (next, put-then old between new at p (r .at) (lineOf place (did .answer)) (tradeLines (did .trades)) room line lines)
+    rw (← e) (next, put-then old between new at p (r .at) (lineOf place (did .line)) (tradeLines (did .trades)) room line lines)
 
 -- room that suffices for the lines of one record: its own, and those of 511 trades
 abbrev pub recordRoom : ℕ
@@ -64,7 +64,7 @@ step-trades s (Record.Auction which) = go (auctioned s which lent .returned .ans
 pub step-room : (place : ℕ) (s : Session) (r : Record) → length (stepLines place (step s r)) ≤ recordRoom
 step-room place s r =
     let done = step s r in
-    omega (arith, length-append (lineOf place (done .answer)) (tradeLines (done .trades)), line-length place (done .answer), trades-room (done .trades), step-trades s r)
+    omega (arith, length-append (lineOf place (done .line)) (tradeLines (done .trades)), line-length place (done .line), trades-room (done .trades), step-trades s r)
 
 pub step-sound : (s : Session) (r : Record) → Sound s → Sound (step s r .session)
 step-sound s (Record.Start p) h = started-sound s _ h

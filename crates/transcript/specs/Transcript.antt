@@ -8,18 +8,18 @@ use Rattle.terms.specs.Orders.{auctionOf}
 use Rattle.terms.specs.Parameters.{parametersFrom}
 use Rattle.terms.specs.declared.orders.{Auction.Auction, AuctionMade.AuctionMade}
 use Rattle.trades.specs.declared.{Trade.Trade}
-use Rattle.session.specs.declared.{Session.Session, Started.Started, Entered.Entered, Deleted.Deleted, Auctioned.Auctioned}
+use Rattle.session.specs.declared.{Session.Session, Started.Started, Entered.Entered, Deleted.Deleted, AuctionAnswer.AuctionAnswer, Auctioned.Auctioned}
 use Rattle.session.specs.Entry.{freshSession, started, entered, deleted}
 use Rattle.session.specs.Auctions.{auctioned, tradesNow}
 use Rattle.records.specs.declared.{Record.Record}
 use Rattle.records.specs.Walk.{walk}
-use Rattle.lines.specs.declared.{Answer.Answer}
-use Rattle.lines.specs.Line.{lineOf, tradeLines, faultLine, endLine}
+use Rattle.lines.specs.declared.{Word.Word, Line.Line}
+use Rattle.lines.specs.Line.{numberedLine, lineOf, tradeLines, faultLine, endLine}
 
--- what a record does: the session after it, its answer, and its trades
+-- what a record does: the session after it, what its line says, and its trades
 pub record Step : Type 0 where
   pub session : Session
-  pub answer : Answer
+  pub line : Line
   pub trades : List Trade
 
 -- the list that the program lends to every auction
@@ -27,13 +27,13 @@ abbrev pub lent : List ℕ
 lent = replicate tradeListLength 0
 
 abbrev pub startStep : Started → Step
-startStep r = record { session = r .session; answer = Answer.Start (r .answer); trades = [] }
+startStep r = record { session = r .session; line = numberedLine Word.Start (r .answer) 0; trades = [] }
 
 abbrev pub orderStep : Entered → Step
-orderStep r = record { session = r .session; answer = Answer.Order (r .answer) (r .number); trades = [] }
+orderStep r = record { session = r .session; line = numberedLine Word.Order (r .answer) (r .number); trades = [] }
 
 abbrev pub deleteStep : Deleted → Step
-deleteStep r = record { session = r .session; answer = Answer.Delete (r .answer); trades = [] }
+deleteStep r = record { session = r .session; line = numberedLine Word.Delete (r .answer) 0; trades = [] }
 
 -- the trades of an auction that was not refused
 abbrev pub tradesAnswered : ℕ → AuctionMade → Session → List Trade
@@ -41,8 +41,13 @@ tradesAnswered (suc n) which s = []
 tradesAnswered zero AuctionMade.Refused s = []
 tradesAnswered zero (AuctionMade.Good a) s = tradesNow s a
 
+-- the four numbers of an auction's line
+abbrev pub auctionLine : ℕ → AuctionAnswer → Line
+auctionLine answer result =
+    record { word = Word.Auction; answer = answer; first = result .outcome; second = result .price; third = result .quantity; fourth = result .count }
+
 abbrev pub auctionStep : Auctioned → List Trade → Step
-auctionStep r trades = record { session = r .session; answer = Answer.Auction (r .answer) (r .result); trades = trades }
+auctionStep r trades = record { session = r .session; line = auctionLine (r .answer) (r .result); trades = trades }
 
 abbrev pub step : Session → Record → Step
 step s (Record.Start p) = startStep (started s (parametersFrom (p .step) (p .reference) (p .factor) (p .threshold) (p .most)))
@@ -53,7 +58,7 @@ step s (Record.Auction which) =
 
 -- the lines of a record, at its place from 1
 abbrev pub stepLines : ℕ → Step → List ℕ
-stepLines place r = lineOf place (r .answer) ++ tradeLines (r .trades)
+stepLines place r = lineOf place (r .line) ++ tradeLines (r .trades)
 
 -- the fault, if one ended the walk, and the count of records answered
 abbrev pub lastLines : ℕ → Bool → List ℕ

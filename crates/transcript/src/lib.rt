@@ -2,8 +2,7 @@
 mod steps;
 mod tell;
 
-use lines::Answer;
-use lines::Done;
+use lines::Word;
 use records::Record;
 use session::Change;
 use session::Session;
@@ -40,10 +39,11 @@ pub struct Telling {
     pub stop: Stop,
 }
 
-// What a record does: an answer with nothing, or with a change at a place, or a call by value.
+// What a record does: an answer with nothing, or with a change at a place, or a call by value. A refusal's answer is as wide as a change's
+// place, so that the two lie in the same bytes and the compiler keeps both in registers.
 pub enum Doing {
-    Refused(Answer),
-    Done(Done, Change),
+    Refused(Word, u64),
+    Done(Word, Change),
     Start(Start),
     Auction(u8),
 }

@@ -3,13 +3,14 @@ use crate::Doing;
 use crate::Stepped;
 use book::HINTS;
 use book::place_by_hint;
-use lines::Answer;
-use lines::Done;
+use lines::Line;
+use lines::Word;
 use lines::line_of;
 use lines::trade_lines;
 use places::WORDS;
 use records::Record;
 use refusals::Phase;
+use session::AuctionAnswer;
 use session::Effect;
 use session::Session;
 use session::delete_effect;
@@ -25,7 +26,7 @@ ghost use Rattle.records.specs.declared.Record.the-variants.{Start as Start·re
 ghost use Rattle.book.specs.Hints.{Numbered};
 ghost use Rattle.session.specs.Sound.{Sound};
 ghost use Rattle.lines.specs.Lengths.{lineRoom};
-ghost use Rattle.transcript.specs.Transcript.{step};
+ghost use Rattle.transcript.specs.Transcript.{auctionLine, step};
 ghost use Rattle.transcript.specs.Steps.{recordRoom, WroteStep};
 ghost use Rattle.transcript.specs.Doings.{orderDoing, deleteDoing, doingOf};
 
@@ -33,8 +34,8 @@ fn order_doing(effect: Effect) -> Doing
     ensures { λ r. ⌜ r ≡ orderDoing effect ⌝ }
 {
     match effect {
-        Effect::Refused(answer) => Doing::Refused(Answer::Order(answer, 0)),
-        Effect::Done(c) => Doing::Done(Done::Order, c),
+        Effect::Refused(answer) => Doing::Refused(Word::Order, answer as u64),
+        Effect::Done(c) => Doing::Done(Word::Order, c),
     }
 }
 
@@ -42,8 +43,8 @@ fn delete_doing(effect: Effect) -> Doing
     ensures { λ r. ⌜ r ≡ deleteDoing effect ⌝ }
 {
     match effect {
-        Effect::Refused(answer) => Doing::Refused(Answer::Delete(answer)),
-        Effect::Done(c) => Doing::Done(Done::Delete, c),
+        Effect::Refused(answer) => Doing::Refused(Word::Delete, answer as u64),
+        Effect::Done(c) => Doing::Done(Word::Delete, c),
     }
 }
 
@@ -91,11 +92,29 @@ pub(crate) fn start_written(
     ensures { λ r. ⌜ WroteStep place (now (out .entry)) (now (out .exit)) at r (step session (Start·record p)) ⌝ }
 {
     let r = session.start(p.step, p.reference, p.factor, p.threshold, p.most);
-    let end = line_of(out, at, place, Answer::Start(r.answer));
+    let end = line_of(
+        out,
+        at,
+        place,
+        Line::numbered(Word::Start, r.answer as u64, 0),
+    );
     let next = r.session;
     Stepped {
         session: next,
         at: end,
+    }
+}
+
+fn auction_line(answer: u8, result: AuctionAnswer) -> Line
+    ensures { λ r. ⌜ r ≡ auctionLine answer result ⌝ }
+{
+    Line {
+        word: Word::Auction,
+        answer: answer as u64,
+        first: result.outcome as u64,
+        second: result.price as u64,
+        third: result.quantity,
+        fourth: result.count as u64,
     }
 }
 
@@ -113,7 +132,8 @@ pub(crate) fn auction_written(
 {
     let r = session.auction(which, list);
     let result = r.result;
-    let behind = line_of(out, at, place, Answer::Auction(r.answer, result));
+    let line = auction_line(r.answer, result);
+    let behind = line_of(out, at, place, line);
     let end = trade_lines(out, behind, list, result.count as usize);
     let next = r.session;
     Stepped {

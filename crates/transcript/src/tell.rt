@@ -13,6 +13,7 @@ use book::put8;
 use book::put16;
 use book::put32;
 use lines::LINE_ROOM;
+use lines::Line;
 use lines::TRADE_ROOM;
 use lines::done_line;
 use lines::end_line;
@@ -91,10 +92,10 @@ fn records_told(
                     &hints,
                 );
                 match doing {
-                    Doing::Refused(answer) => {
-                        at = line_of(out, at, count, answer);
+                    Doing::Refused(word, answer) => {
+                        at = line_of(out, at, count, Line::numbered(word, answer, 0));
                     }
-                    Doing::Done(done, c) => {
+                    Doing::Done(word, c) => {
                         let spot = c.place;
                         let values = c.values;
                         present.given = c.given;
@@ -106,7 +107,7 @@ fn records_told(
                         put32(&mut present.book.left, spot, values.left);
                         put32(&mut present.book.limit, spot, values.limit);
                         hint(&mut hints, values.number, spot);
-                        at = done_line(out, at, count, done, c.given);
+                        at = done_line(out, at, count, word, c.given);
                     }
                     Doing::Start(p) => {
                         let r = start_written(present, p, count, out, at);

@@ -4,7 +4,6 @@ use native.Mathlib.Omega.{arith}
 use borrow.Author.Needs.{needs}
 use Rattle.trades.specs.Written.{tradesRead}
 use Rattle.lines.specs.Lengths.{line-length}
-use Rattle.lines.specs.declared.{Answer.Answer}
 use Rattle.transcript.specs.Transcript.{auctionStep}
 use Rattle.transcript.specs.Steps.{wrote-both}
 use Rattle.transcript.specs.Lent.{auction-step, auction-count}
@@ -14,6 +13,9 @@ use Rattle.transcript.proofs.steps.auction_written.Tie as tie
 auction-requires : tie.Need-auction-requires
 auction-requires c κs = search needs
 
+auction-line-requires : tie.Need-auction-line-requires
+auction-line-requires c κs = search needs
+
 line-of-requires : tie.Need-line-of-requires
 line-of-requires c κs = search needs
 
@@ -22,10 +24,12 @@ cast-trade-lines c = search needs
 
 trade-lines-requires : tie.Need-trade-lines-requires
 trade-lines-requires c κs =
-    let s = c .before .before .before .before .before .before .before .before .before .before .before .before .before .before in
-    let r = c .before .before .before .before .before .before .before .before .before .before .auction in
-    let few = auction-count _ _ _ _ (r .result) (r .ensures) in
-    (omega (arith, line-length (s .args .place) (Answer.Auction (r .result .answer) (r .result .result))), omega arith)
+    let written = c .before .before .before .before .before in
+    let line = written .before .before in
+    let auction = line .before .before .before .before in
+    let s = auction .before .before .before .before in
+    let few = auction-count _ _ _ _ (auction .auction .result) (auction .auction .ensures) in
+    (omega (arith, few, written .line-of .ensures .0, written .line-of .kept .0, line-length (s .args .place) (line .auction-line .result), s .pre .2), omega (arith, few))
 
 same-length : tie.Need-same-length
 same-length c = search needs
@@ -35,18 +39,21 @@ same-length-2 c = search needs
 
 returns : tie.Need-returns
 returns c =
-    let trade-lines = c .before .before .before .trade-lines in
-    let s = c .before .before .before .before .before .before .before .before .before .before .before .before .before .before .before .before .before .before in
-    let r = c .before .before .before .before .before .before .before .before .before .before .before .before .before .before .auction in
-    let w = c .before .before .before .before .before .before .before .before .before .line-of in
+    let lines = c .before .before .before in
+    let written = lines .before .before .before .before .before .before in
+    let line = written .before .before in
+    let auction = line .before .before .before .before in
+    let r = auction .auction in
+    let s = auction .before .before .before .before in
     wrote-both (s .args .place) _ _ _ _ _ _ (auctionStep (r .result) (tradesRead (r .result .result .count) (r .last .1 .1 .0))) _ (omega (arith, s .pre .2))
-    (auction-step _ _ _ _ (r .result) (s .pre .1) (r .ensures)) refl (w .ensures) (trade-lines .ensures)
+    (auction-step _ _ _ _ (r .result) (s .pre .1) (r .ensures)) refl (rw (line .auction-line .ensures) at (written .line-of .ensures)) (lines .trade-lines .ensures)
 
 pub auction-written-spec : {M : Type 1} → statement M
 auction-written-spec =
     tie.close
     (tie.spec
     auction-requires
+    auction-line-requires
     line-of-requires
     cast-trade-lines
     trade-lines-requires

@@ -6,6 +6,9 @@ use Rattle.transcript.proofs.steps.delete_doing.Tie as tie
 enum-known-effect : tie.Need-enum-known-effect
 enum-known-effect c = search needs
 
+cast-t6 : tie.Need-cast-t6
+cast-t6 c = search needs
+
 enum-known-effect-2 : tie.Need-enum-known-effect-2
 enum-known-effect-2 c = search needs
 
@@ -16,4 +19,4 @@ returns-2 : tie.Need-returns-2
 returns-2 c = rw (c .before .effect2 .given .1)
 
 pub delete-doing-spec : {M : Type 1} → statement M
-delete-doing-spec = tie.close (tie.spec enum-known-effect enum-known-effect-2 returns returns-2)
+delete-doing-spec = tie.close (tie.spec enum-known-effect cast-t6 enum-known-effect-2 returns returns-2)

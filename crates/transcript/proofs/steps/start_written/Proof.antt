@@ -9,6 +9,12 @@ use Rattle.transcript.proofs.steps.start_written.Tie as tie
 start-requires : tie.Need-start-requires
 start-requires c κs = search needs
 
+cast-numbered : tie.Need-cast-numbered
+cast-numbered c = search needs
+
+numbered-requires : tie.Need-numbered-requires
+numbered-requires c κs = search needs
+
 line-of-requires : tie.Need-line-of-requires
 line-of-requires c κs = search needs
 
@@ -17,10 +23,10 @@ same-length c = search needs
 
 returns : tie.Need-returns
 returns c =
-    let a = c .before .before .before .before .before .before .before .args in
-    let start = c .before .before .before .before .before .start in
-    let line-of = c .before .before .before .line-of in
-    wrote-alone (a .place) _ _ _ _ (startStep (start .result)) _ (ap startStep (start .ensures)) refl refl (line-of .ensures)
+    let line = c .before .before .before in
+    let start = line .before .before .before .before in
+    let a = start .before .before .args in
+    wrote-alone (a .place) _ _ _ _ (startStep (start .start .result)) _ (ap startStep (start .start .ensures)) refl refl (rw (line .before .numbered .ensures) at (line .line-of .ensures))
 
 pub start-written-spec : {M : Type 1} → statement M
-start-written-spec = tie.close (tie.spec start-requires line-of-requires same-length returns)
+start-written-spec = tie.close (tie.spec start-requires cast-numbered numbered-requires line-of-requires same-length returns)

@@ -5,7 +5,7 @@ use mathlib.Core.List.{List}
 use lib.ListN.{length}
 use Rattle.terms.specs.Bounds.{tradeListLength, places}
 use Rattle.book.specs.Hints.{sound-numbered}
-use Rattle.lines.specs.Line.{answerOf}
+use Rattle.lines.specs.Line.{numberedLine, doneLine}
 use Rattle.session.specs.Changes.{changed}
 use Rattle.transcript.specs.declared.{Stepped.Stepped}
 use Rattle.transcript.specs.Transcript.{step}
@@ -87,21 +87,26 @@ doing-of-requires c κs = let s = turn (c .before .before .before .before .befor
 enum-known-doing : tie.Need-enum-known-doing Inv-loop μ-loop
 enum-known-doing c = search needs
 
+numbered-requires : tie.Need-numbered-requires Inv-loop μ-loop
+numbered-requires c κs = search needs
+
 line-of-requires : tie.Need-line-of-requires Inv-loop μ-loop
-line-of-requires c κs = let k = asked (c .before .before .before .before) in let f = onward k in omega (arith, f .2, turn k .loop .inv .0 .at-within)
+line-of-requires c κs = let k = asked (c .before .before .before .before .before) in let f = onward k in omega (arith, f .2, turn k .loop .inv .0 .at-within)
 
 loop-less : tie.Need-loop-less Inv-loop μ-loop
-loop-less c = let f = onward (asked (c .before .before .before .before .before .before .before)) in omega (arith, f .0, f .1)
+loop-less c = let f = onward (asked (c .before .before .before .before .before .before .before .before)) in omega (arith, f .0, f .1)
 
 loop-again : tie.Need-loop-again Inv-loop μ-loop
 loop-again c =
-    let d = c .before .before .before .before .before .before .before in
+    let numbered = c .before .before .before in
+    let doing = numbered .before .before .before .doing in
+    let d = numbered .before .before .before .before .before in
     let k = asked d in
     let l = turn k .loop in
-    let e = does-found (l .present) (k .before .next .given .0 .0) (sym (c .before .before .before .before .before .doing .given .1) ∙ d .doing-of .ensures) in
+    let e = does-found (l .present) (k .before .next .given .0 .0) (sym (doing .given .1) ∙ d .doing-of .ensures) in
     let line-of = c .before .before .line-of in (
       next k
-          (wrote-alone (l .count + 1) _ _ _ (record { session = l .present; at = line-of .result }) (quiet (l .present) (c .before .before .before .before .before .doing .given .0 .0)) _ e refl refl (line-of .ensures))
+          (wrote-alone (l .count + 1) _ _ _ (record { session = l .present; at = line-of .result }) (quiet (l .present) (numberedLine (doing .given .0 .0) (doing .given .0 .1 .0) 0)) _ e refl refl (rw (numbered .numbered .ensures) at (line-of .ensures)))
           (line-of .kept .0),
       l .inv .1,
       l .inv .2,
@@ -151,7 +156,7 @@ loop-again-2 c =
     let e = does-found (l .present) (k .before .next .given .0 .0) (sym (doing .given .1) ∙ d .doing-of .ensures) in
     let line = c .before .before .done-line in (
       next k
-          (wrote-alone (l .count + 1) _ _ _ (record { session = _; at = line .result }) (quiet (changed (l .present) (doing .given .0 .1 .0)) (answerOf (doing .given .0 .0) (doing .given .0 .1 .0 .given))) _ (e .0) refl
+          (wrote-alone (l .count + 1) _ _ _ (record { session = _; at = line .result }) (quiet (changed (l .present) (doing .given .0 .1 .0)) (doneLine (doing .given .0 .0) (doing .given .0 .1 .0 .given))) _ (e .0) refl
           (rw (
             stored .before .before .before .before .before .before .before .before .before .before .before .before .put-word .ensures,
             stored .before .before .before .before .before .before .before .before .before .before .put32 .ensures,
@@ -243,6 +248,7 @@ records-told-spec =
     add-count
     doing-of-requires
     enum-known-doing
+    numbered-requires
     line-of-requires
     loop-less
     loop-again

@@ -1,11 +1,14 @@
 -- The place, then the word with its 1.
-use Rattle.lines.specs.Text.{faultWord}
+use mathlib.Core.List.{[], _∷_}
+use Rattle.lines.specs.Text.{decimal, faultWord}
 use Rattle.lines.specs.Decimal.{decimal-length}
-use Rattle.lines.specs.Placed.{answered-then}
+use Rattle.lines.specs.Line.{worded}
+use Rattle.lines.specs.Put.{put-then}
+use Rattle.lines.specs.Placed.{short-then}
 use native.Mathlib.Omega.{arith}
 use borrow.Author.Needs.{needs}
-use Rattle.lines.proofs.line.fault_line.Statement.{statement}
-use Rattle.lines.proofs.line.fault_line.Tie as tie
+use Rattle.lines.proofs.writer.fault_line.Statement.{statement}
+use Rattle.lines.proofs.writer.fault_line.Tie as tie
 
 put-decimal-requires : tie.Need-put-decimal-requires
 put-decimal-requires c κs = search needs
@@ -24,7 +27,8 @@ returns c =
     let word = c .before .before in
     let place = word .before .before .before .before .before in
     let s = place .before .before .before in
-    answered-then _ _ _ _ (s .args .place) faultWord (omega (arith, s .pre)) (place .put-decimal .ensures) _ _ 1 (omega arith) (word .put-bytes .ensures)
+    put-then _ _ _ _ _ _ (decimal (s .args .place)) (worded faultWord (1 ∷ [])) (omega (arith, s .pre)) (place .put-decimal .ensures)
+    (short-then _ _ _ _ faultWord 1 (omega arith) (word .put-bytes .ensures))
 
 pub fault-line-spec : {M : Type 1} → statement M
 fault-line-spec =

@@ -6,8 +6,8 @@ use Rattle.lines.specs.Texts.{WroteAll, all-none, numbers-next, numbers-
 use Rattle.lines.specs.Lengths.{numbers-within}
 use borrow.Author.Needs.{needs}
 use native.Mathlib.Omega.{arith}
-use Rattle.lines.proofs.line.put_numbers.Statement.{statement}
-use Rattle.lines.proofs.line.put_numbers.Tie as tie
+use Rattle.lines.proofs.writer.put_numbers.Statement.{statement}
+use Rattle.lines.proofs.writer.put_numbers.Tie as tie
 
 abbrev Inv-loop : tie.InvT-loop
 Inv-loop out₀ at xs end₀ i₀ out end i = (i ≤ length xs) × WroteAll numeral out₀ at (take i xs) out end

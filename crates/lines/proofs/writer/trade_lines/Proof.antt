@@ -6,8 +6,8 @@ use borrow.Author.Needs.{needs}
 use Rattle.lines.specs.Trades.{WroteTrades, trades-within, trades-next}
 use Rattle.lines.specs.Texts.{all-none}
 use Rattle.lines.specs.Line.{tradeLine}
-use Rattle.lines.proofs.line.trade_lines.Statement.{statement}
-use Rattle.lines.proofs.line.trade_lines.Tie as tie
+use Rattle.lines.proofs.writer.trade_lines.Statement.{statement}
+use Rattle.lines.proofs.writer.trade_lines.Tie as tie
 
 abbrev Inv-loop : tie.InvT-loop
 Inv-loop out₀ at list count end₀ k₀ out end k = (k ≤ count) × WroteTrades out₀ at list out end k

@@ -1,17 +1,20 @@
 // The lines that the session program prints, each written into a lent buffer from a place on (01 "Session file"; D3).
-use crate::Answer;
-use crate::Done;
+use crate::Line;
+use crate::Word;
 use crate::text::put_byte;
 use crate::text::put_bytes;
 use crate::text::put_decimal;
 use crate::text::put_number;
 use trades::Trade;
+ghost use mathlib.Core.Path.{_≡_};
+ghost use mathlib.Core.List.{_∷_};
 ghost use Prim.Native.Nat.{_+_, _*_, _≤_};
 ghost use lib.ListN.{length};
 ghost use Rattle.terms.specs.Bounds.{numbersPerTrade};
 ghost use Rattle.trades.specs.Written.{tradesRead};
-ghost use Rattle.lines.specs.Line.{numbers, lineOf, answerOf, tradeLine, tradeLines, faultLine, endLine};
-ghost use Rattle.lines.specs.Lengths.{numbersRoom, lineRoom, tradeRoom, faultRoom, endRoom};
+ghost use Rattle.lines.specs.Text.{space};
+ghost use Rattle.lines.specs.Line.{wordText, wordNumbers, numbers, answerText, lineOf, doneLine, tradeLine, tradeLines, faultLine, endLine};
+ghost use Rattle.lines.specs.Lengths.{wordRoom, numbersRoom, answerRoom, lineRoom, tradeRoom, faultRoom, endRoom};
 ghost use Rattle.lines.specs.Put.{Wrote};
 
 const NEWLINE: u8 = 10;
@@ -30,55 +33,72 @@ fn put_numbers(out: &mut [u8], at: usize, xs: &[u64]) -> usize
     put_byte(out, end, NEWLINE)
 }
 
-// What a record was answered.
-pub fn line_of(out: &mut [u8], at: usize, place: u64, answer: Answer) -> usize
-    requires { ⌜ at + lineRoom ≤ length (now out) ⌝ }
-    ensures { λ r. ⌜ Wrote (now (out .entry)) (now (out .exit)) at r (lineOf place answer) ⌝ }
+// A word behind a space. Each is a literal, so that it is a few stores.
+fn put_word(out: &mut [u8], at: usize, word: Word) -> usize
+    requires { ⌜ at + wordRoom ≤ length (now out) ⌝ }
+    ensures { λ r. ⌜ Wrote (now (out .entry)) (now (out .exit)) at r (space ∷ wordText word) ⌝ }
 {
-    let p = put_decimal(out, at, place);
-    match answer {
-        Answer::Start(a) => {
-            let xs = [a as u64];
-            let q = put_bytes(out, p, b" start");
-            put_numbers(out, q, &xs)
-        }
-        Answer::Order(a, number) => {
-            let xs = [a as u64, number as u64];
-            let q = put_bytes(out, p, b" order");
-            put_numbers(out, q, &xs)
-        }
-        Answer::Delete(a) => {
-            let xs = [a as u64];
-            let q = put_bytes(out, p, b" delete");
-            put_numbers(out, q, &xs)
-        }
-        Answer::Auction(a, r) => {
-            let xs = [
-                a as u64,
-                r.outcome as u64,
-                r.price as u64,
-                r.quantity,
-                r.count as u64,
-            ];
-            let q = put_bytes(out, p, b" auction");
-            put_numbers(out, q, &xs)
-        }
+    match word {
+        Word::Start => put_bytes(out, at, b" start"),
+        Word::Order => put_bytes(out, at, b" order"),
+        Word::Delete => put_bytes(out, at, b" delete"),
+        Word::Auction => put_bytes(out, at, b" auction"),
     }
 }
 
-// The line of an order or a deletion that was done: most lines of a session are one of these two.
-pub fn done_line(out: &mut [u8], at: usize, place: u64, done: Done, number: u32) -> usize
+// How many numbers follow a word's answer.
+fn word_numbers(word: Word) -> usize
+    ensures { λ r. ⌜ r ≡ wordNumbers word ⌝ }
+{
+    match word {
+        Word::Start => 0,
+        Word::Order => 1,
+        Word::Delete => 0,
+        Word::Auction => 4,
+    }
+}
+
+// What stands behind a record's place.
+fn put_answer(out: &mut [u8], at: usize, line: Line) -> usize
+    requires { ⌜ at + answerRoom ≤ length (now out) ⌝ }
+    ensures { λ r. ⌜ Wrote (now (out .entry)) (now (out .exit)) at r (answerText line) ⌝ }
+{
+    let word = line.word;
+    let numbers = [
+        line.answer,
+        line.first,
+        line.second,
+        line.third,
+        line.fourth,
+    ];
+    let n = 1 + word_numbers(word);
+    let p = put_word(out, at, word);
+    put_numbers(out, p, &numbers[..n])
+}
+
+// What a record was answered.
+pub fn line_of(out: &mut [u8], at: usize, place: u64, line: Line) -> usize
     requires { ⌜ at + lineRoom ≤ length (now out) ⌝ }
-    ensures { λ r. ⌜ Wrote (now (out .entry)) (now (out .exit)) at r (lineOf place (answerOf done number)) ⌝ }
+    ensures { λ r. ⌜ Wrote (now (out .entry)) (now (out .exit)) at r (lineOf place line) ⌝ }
 {
     let p = put_decimal(out, at, place);
-    match done {
-        Done::Order => {
+    put_answer(out, p, line)
+}
+
+// The line of a record that was done: most lines of a session are an order's or a deletion's.
+pub fn done_line(out: &mut [u8], at: usize, place: u64, word: Word, number: u32) -> usize
+    requires { ⌜ at + lineRoom ≤ length (now out) ⌝ }
+    ensures { λ r. ⌜ Wrote (now (out .entry)) (now (out .exit)) at r (lineOf place (doneLine word number)) ⌝ }
+{
+    let p = put_decimal(out, at, place);
+    match word {
+        Word::Order => {
             let q = put_bytes(out, p, b" order 0 ");
             let r = put_decimal(out, q, number as u64);
             put_byte(out, r, NEWLINE)
         }
-        Done::Delete => put_bytes(out, p, b" delete 0\n"),
+        Word::Delete => put_bytes(out, p, b" delete 0\n"),
+        _ => put_answer(out, p, Line::numbered(word, 0, number as u64)),
     }
 }
 

@@ -5,8 +5,8 @@ use Rattle.lines.specs.Line.{numbers}
 use Rattle.lines.specs.Put.{put-then}
 use native.Mathlib.Omega.{arith}
 use borrow.Author.Needs.{needs}
-use Rattle.lines.proofs.line.end_line.Statement.{statement}
-use Rattle.lines.proofs.line.end_line.Tie as tie
+use Rattle.lines.proofs.writer.end_line.Statement.{statement}
+use Rattle.lines.proofs.writer.end_line.Tie as tie
 
 slice-aggregate-put-bytes : tie.Need-slice-aggregate-put-bytes
 slice-aggregate-put-bytes c = search needs
