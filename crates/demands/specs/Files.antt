@@ -6,7 +6,7 @@ use mathlib.Core.Path.{_≡_, sym, ap, _∙_}
 use mathlib.Core.List.{List, [], flatten}
 use native.Mathlib.Omega.{arith}
 use lib.ListN.{length, take}
-use Rattle.session.specs.Entry.{freshSession}
+use Rattle.session.specs.State.{freshSession}
 use Rattle.transcript.specs.declared.{Stop.Stop}
 use Rattle.transcript.specs.Transcript.{printed}
 use Rattle.transcript.specs.Steps.{recordRoom}

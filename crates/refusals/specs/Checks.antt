@@ -26,7 +26,7 @@ numbered [] = true
 numbered (c ∷ cs) = ltb 0 (c .number) && numbered cs
 
 -- what a call answers by its checks: the refusal of the first hit, or what is done
-abbrev answeredBy : {A : Type 0} → ℕ → (ℕ → A) → A → A
+abbrev pub answeredBy : {A : Type 0} → ℕ → (ℕ → A) → A → A
 answeredBy zero refused done = done
 answeredBy (suc n) refused done = refused (suc n)
 
@@ -49,6 +49,15 @@ module _ {A : Type 0} (checks : List Check) (refused : ℕ → A) (done : A) whe
     go : (m : ℕ) → m ≡ firstHit checks → P (answeredBy m refused done)
     go zero e = does e
     go (suc m) e = refuses (suc m) (λ z. omega arith) e
+
+  -- where a refusal answers its number and what is done answers 0, the answer is the first hit; and one that is not 0 is a refusal
+  module _ (number : A → ℕ) (tells : (n : ℕ) → number (refused n) ≡ n) (zeroed : number done ≡ 0) where
+    pub answered-number : number (answered checks refused done) ≡ firstHit checks
+    answered-number = answered-cases (λ (x : A). number x ≡ firstHit checks) (λ n h e. tells n ∙ e) (λ e. zeroed ∙ e)
+
+    pub answered-not-done : number (answered checks refused done) ≢ 0 → answered checks refused done ≡ refused (number (answered checks refused done))
+    answered-not-done =
+        answered-cases (λ (x : A). number x ≢ 0 → x ≡ refused (number x)) (λ n h e k. ap refused (sym (tells n))) (λ e k. absurd (k zeroed))
 
 -- .. read through a function
 pub answered-map : {A B : Type 0} (f : A → B) (checks : List Check) (refused : ℕ → A) (done : A)

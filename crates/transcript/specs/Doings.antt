@@ -4,13 +4,14 @@ use mathlib.Core.Path.{_≡_, refl, sym, ap, _∙_}
 use mathlib.Core.List.{List, []}
 use native.Mathlib.Omega.{arith}
 use Rattle.terms.specs.Bounds.{places}
+use Rattle.terms.specs.declared.kinds.{Price.Price}
 use Rattle.terms.specs.declared.orders.{Entry.Entry}
 use Rattle.terms.specs.declared.parameters.{Parameters.Parameters}
 use Rattle.refusals.specs.declared.phases.{Phase.Phase}
 use Rattle.session.specs.declared.{Session.Session, Entered.Entered, Deleted.Deleted}
 use Rattle.session.specs.declared.changes.{Change.Change, Effect.Effect}
 use Rattle.book.specs.Resting.{placeIn}
-use Rattle.session.specs.Entry.{entered, deleted}
+use Rattle.session.specs.Entry.{controlReference, entered, deleted}
 use Rattle.session.specs.Changes.{changed, orderEffect, deleteEffect, orderIn, deleteIn, enteredBy, deletedBy, entered-by, deleted-by, order-place, delete-place}
 use Rattle.records.specs.declared.{Record.Record, Deletion.Deletion}
 use Rattle.lines.specs.declared.{Word.Word, Line.Line}
@@ -27,14 +28,14 @@ abbrev pub deleteDoing : Effect → Doing
 deleteDoing (Effect.Refused n) = Doing.Refused Word.Delete n
 deleteDoing (Effect.Done c) = Doing.Done Word.Delete c
 
-abbrev pub doingOf : Record → Phase → Parameters → ℕ → ℕ → List ℕ → List ℕ → List ℕ → Doing
+abbrev pub doingOf : Record → Phase → Parameters → Price → ℕ → List ℕ → List ℕ → List ℕ → Doing
 doingOf (Record.Start p) phase parameters reference given taken numbers members = Doing.Start p
 doingOf (Record.Order e) phase parameters reference given taken numbers members = orderDoing (orderEffect phase parameters reference given taken e)
 doingOf (Record.Delete d) phase parameters reference given taken numbers members = deleteDoing (deleteEffect phase given taken (placeIn taken numbers members (d .number) (d .member) 0 places) (d .number) (d .member))
 doingOf (Record.Auction which) phase parameters reference given taken numbers members = Doing.Auction which
 
 abbrev pub doingIn : Session → Record → Doing
-doingIn s r = doingOf r (s .phase) (s .parameters) (s .reference) (s .given) (s .book .taken) (s .book .number) (s .book .member)
+doingIn s r = doingOf r (s .phase) (s .parameters) (controlReference s) (s .given) (s .book .taken) (s .book .number) (s .book .member)
 
 -- a step without trades
 abbrev pub quiet : Session → Line → Step
@@ -50,7 +51,7 @@ Does s r (Doing.Auction which) = r ≡ Record.Auction which
 -- what a record does is what its call answers and leaves
 pub does : (s : Session) (r : Record) → Does s r (doingIn s r)
 does s (Record.Start p) = refl
-does s (Record.Order e) = go (orderIn s e) (entered-by s e) (λ c h. order-place (s .phase) (s .parameters) (s .reference) (s .given) (s .book .taken) e h) where
+does s (Record.Order e) = go (orderIn s e) (entered-by s e) (λ c h. order-place (s .phase) (s .parameters) (controlReference s) (s .given) (s .book .taken) e h) where
   go : (f : Effect) → enteredBy s f ≡ entered s e → ((c : Change) → f ≡ Effect.Done c → c .place < places) → Does s (Record.Order e) (orderDoing f)
   go (Effect.Refused n) h p = ap orderStep h
   go (Effect.Done c) h p = (ap orderStep h, p c refl)

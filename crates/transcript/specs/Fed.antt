@@ -10,7 +10,7 @@ use lib.Seq.{take-append-seam, drop-append-le}
 use native.Mathlib.Omega.{arith}
 use borrow.Author.Tests.{ltb-true}
 use Rattle.session.specs.declared.{Session.Session}
-use Rattle.session.specs.Entry.{freshSession}
+use Rattle.session.specs.State.{freshSession}
 use Rattle.session.specs.Sound.{Sound, fresh-sound}
 use Rattle.records.specs.declared.{Record.Record}
 use Rattle.records.specs.Walk.{Walk, Read, recordAt, after, goOn, walkFrom}

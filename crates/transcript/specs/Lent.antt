@@ -1,18 +1,18 @@
 -- An auction's trades are read from the list that it wrote them to, whatever numbers that list held before.
 use Prim.Native.Nat.{ℕ, zero, suc, _*_, _≤_}
 use mathlib.Core.Path.{_≡_, refl, sym, ap, _∙_, subst}
-use mathlib.Core.List.{List}
+use mathlib.Core.List.{List, []}
 use native.Mathlib.Omega.{arith}
 use lib.ListN.{length, drop, length-replicate}
 use Rattle.terms.specs.Bounds.{numbersPerTrade, maxTrades, tradeListLength}
-use Rattle.terms.specs.Orders.{auctionOf}
-use Rattle.terms.specs.declared.orders.{AuctionMade.AuctionMade}
+use Rattle.terms.specs.Orders.{auctionFrom}
+use Rattle.terms.specs.declared.orders.{Auction.Auction}
 use Rattle.trades.specs.declared.{Trade.Trade}
 use Rattle.auction.specs.Outcome.{priceAnswered}
 use Rattle.trades.specs.Written.{tradesRead, trades-back}
 use Rattle.session.specs.declared.{Session.Session, Auctioned.Auctioned}
-use Rattle.refusals.specs.Checks.{firstHit}
-use Rattle.session.specs.Auctions.{AuctionLeaves, outcomeOf, tradesNow, auctionChecks, auctionLeaves, auctionDone, auctionAnswer, auctioned}
+use Rattle.refusals.specs.Checks.{Check, firstHit, answeredBy, answered, answered-cases}
+use Rattle.session.specs.Auctions.{AuctionLeaves, outcomeOf, tradesNow, auctionChecks, auctionLeaves, auctionRefused, auctionDone, auctioned}
 use Rattle.records.specs.declared.{Record.Record}
 use Rattle.transcript.specs.Transcript.{Step, step, auctionStep, lent, tradesAnswered}
 use Rattle.transcript.specs.Steps.{trades-few}
@@ -21,29 +21,36 @@ use Rattle.transcript.specs.Steps.{trades-few}
 abbrev stepRead : AuctionLeaves → Step
 stepRead l = auctionStep (l .returned) (tradesRead (l .returned .result .count) (l .list))
 
-answered : (n : ℕ) (made : AuctionMade) (s : Session) (list other : List ℕ)
-    → stepRead (auctionAnswer n made s list) ≡ auctionStep (auctionAnswer n made s other .returned) (tradesAnswered (auctionAnswer n made s other .returned .answer) made s)
-answered (suc n) made s list other = refl
-answered zero AuctionMade.Refused s list other = refl
-answered zero (AuctionMade.Good a) s list other =
+-- an auction that is done, read so; the answer doesn't depend on what the list held
+read-done : (s : Session) (a : Auction) (list other : List ℕ) → stepRead (auctionDone s a list) ≡ auctionStep (auctionDone s a other .returned) (tradesNow s a)
+read-done s a list other =
     ap (λ (ts : List Trade). auctionStep (auctionDone s a list .returned) ts)
     (trades-back (priceAnswered (outcomeOf s a)) (tradesNow s a) (drop (numbersPerTrade * length (tradesNow s a)) list))
 
-as-long : (s : Session) (which : ℕ) (list other : List ℕ) → length list ≡ length other
-    → stepRead (auctioned s which list) ≡ auctionStep (auctioned s which other .returned) (tradesAnswered (auctioned s which other .returned .answer) (auctionOf which) s)
-unfolding auctioned
-as-long s which list other h = rw h (answered (firstHit (auctionChecks s which (length other))) (auctionOf which) s list other)
+module _ (s : Session) (which : ℕ) (list other : List ℕ) where
+  same : (checks : List Check)
+      → stepRead (answered checks (auctionRefused s list) (auctionDone s (auctionFrom which) list))
+      ≡ auctionStep (answered checks (auctionRefused s other) (auctionDone s (auctionFrom which) other) .returned) (answered checks (λ n. []) (tradesNow s (auctionFrom which)))
+  same checks = go (firstHit checks) where
+    go : (n : ℕ)
+        → stepRead (answeredBy n (auctionRefused s list) (auctionDone s (auctionFrom which) list))
+        ≡ auctionStep (answeredBy n (auctionRefused s other) (auctionDone s (auctionFrom which) other) .returned) (answeredBy n (λ m. []) (tradesNow s (auctionFrom which)))
+    go zero = read-done s (auctionFrom which) list other
+    go (suc n) = refl
+
+  as-long : length list ≡ length other → length other ≡ tradeListLength → stepRead (auctioned s which list) ≡ auctionStep (auctioned s which other .returned) (tradesAnswered s which)
+  unfolding auctioned
+  as-long h k = rw (h, k) (same (auctionChecks s which tradeListLength))
 
 pub auction-step : (s : Session) (which : ℕ) (list left : List ℕ) (r : Auctioned) → length list ≡ tradeListLength → auctionLeaves r left ≡ auctioned s which list
     → auctionStep r (tradesRead (r .result .count) left) ≡ step s (Record.Auction which)
-auction-step s which list left r h e = ap stepRead e ∙ as-long s which list lent (h ∙ sym (length-replicate {A = ℕ} tradeListLength 0))
-
-few : (n : ℕ) (made : AuctionMade) (s : Session) (list : List ℕ) → auctionAnswer n made s list .returned .result .count ≤ maxTrades
-few (suc n) made s list = omega arith
-few zero AuctionMade.Refused s list = omega arith
-few zero (AuctionMade.Good a) s list = trades-few s a
+auction-step s which list left r h e =
+    let long = length-replicate {A = ℕ} tradeListLength 0 in
+    ap stepRead e ∙ as-long s which list lent (h ∙ sym long) long
 
 pub auction-count : (s : Session) (which : ℕ) (list left : List ℕ) (r : Auctioned) → auctionLeaves r left ≡ auctioned s which list → r .result .count ≤ maxTrades
 unfolding auctioned
 auction-count s which list left r e =
-    subst (λ (l : AuctionLeaves). l .returned .result .count ≤ maxTrades) (sym e) (few (firstHit (auctionChecks s which (length list))) (auctionOf which) s list)
+    subst (λ (l : AuctionLeaves). l .returned .result .count ≤ maxTrades) (sym e)
+    (answered-cases (auctionChecks s which (length list)) (auctionRefused s list) (auctionDone s (auctionFrom which) list) (λ (l : AuctionLeaves). l .returned .result .count ≤ maxTrades)
+    (λ n h i. omega arith) (λ i. trades-few s (auctionFrom which)))

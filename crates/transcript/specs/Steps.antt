@@ -4,9 +4,11 @@ use mathlib.Core.Path.{_≡_}
 use mathlib.Core.List.{List, [], append-nil}
 use native.Mathlib.Omega.{arith}
 use lib.ListN.{length, length-append}
-use Rattle.terms.specs.Bounds.{places, maxTrades}
-use Rattle.terms.specs.Orders.{auctionOf}
-use Rattle.terms.specs.declared.orders.{Auction.Auction, AuctionMade.AuctionMade}
+use Rattle.terms.specs.Bounds.{places, maxTrades, tradeListLength}
+use Rattle.terms.specs.Orders.{auctionFrom}
+use Rattle.terms.specs.declared.orders.{Auction.Auction}
+use Rattle.trades.specs.declared.{Trade.Trade}
+use Rattle.refusals.specs.Checks.{answered-cases}
 use Rattle.book.specs.Resting.{resting}
 use Rattle.book.specs.Rests.{resting-length}
 use Rattle.queue.specs.Part.{takingPart-length}
@@ -16,13 +18,13 @@ use Rattle.auction.specs.Outcome.{trades}
 use Rattle.session.specs.declared.{Session.Session}
 use Rattle.session.specs.Sound.{Sound, started-sound, entered-sound, deleted-sound}
 use Rattle.session.specs.SoundAfter.{auctioned-sound}
-use Rattle.session.specs.Auctions.{auctioned, part, outcomeOf, tradesNow}
+use Rattle.session.specs.Auctions.{auctionChecks, auctioned, part, outcomeOf, tradesNow}
 use Rattle.records.specs.declared.{Record.Record}
 use Rattle.lines.specs.Line.{lineOf, tradeLines}
 use Rattle.lines.specs.Lengths.{lineRoom, tradeRoom, line-length, trades-room}
 use Rattle.lines.specs.Put.{Wrote, put-then}
 use Rattle.transcript.specs.declared.{Stepped.Stepped}
-use Rattle.transcript.specs.Transcript.{Step, step, stepLines, lent, tradesAnswered}
+use Rattle.transcript.specs.Transcript.{Step, step, stepLines, lent}
 
 -- the session after a step, and the lines of the record at its place from 1 written into the buffer
 abbrev pub WroteStep : ℕ → List ℕ → List ℕ → ℕ → Stepped → Step → Type 0
@@ -55,11 +57,9 @@ step-trades : (s : Session) (r : Record) → length (step s r .trades) ≤ maxTr
 step-trades s (Record.Start p) = omega arith
 step-trades s (Record.Order e) = omega arith
 step-trades s (Record.Delete d) = omega arith
-step-trades s (Record.Auction which) = go (auctioned s which lent .returned .answer) (auctionOf which) where
-  go : (n : ℕ) (made : AuctionMade) → length (tradesAnswered n made s) ≤ maxTrades
-  go (suc n) made = omega arith
-  go zero AuctionMade.Refused = omega arith
-  go zero (AuctionMade.Good a) = trades-few s a
+step-trades s (Record.Auction which) =
+    answered-cases (auctionChecks s which tradeListLength) (λ n. []) (tradesNow s (auctionFrom which)) (λ (ts : List Trade). length ts ≤ maxTrades)
+    (λ n h e. omega arith) (λ e. trades-few s (auctionFrom which))
 
 pub step-room : (place : ℕ) (s : Session) (r : Record) → length (stepLines place (step s r)) ≤ recordRoom
 step-room place s r =

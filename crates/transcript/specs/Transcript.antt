@@ -4,13 +4,13 @@ use mathlib.Core.Bool.{Bool, true, false}
 use mathlib.Core.List.{List, [], _∷_, _++_}
 use lib.ListN.{replicate}
 use Rattle.terms.specs.Bounds.{tradeListLength}
-use Rattle.terms.specs.Orders.{auctionOf}
-use Rattle.terms.specs.Parameters.{parametersFrom}
-use Rattle.terms.specs.declared.orders.{Auction.Auction, AuctionMade.AuctionMade}
+use Rattle.terms.specs.Orders.{auctionFrom}
 use Rattle.trades.specs.declared.{Trade.Trade}
 use Rattle.session.specs.declared.{Session.Session, Started.Started, Entered.Entered, Deleted.Deleted, AuctionAnswer.AuctionAnswer, Auctioned.Auctioned}
-use Rattle.session.specs.Entry.{freshSession, started, entered, deleted}
-use Rattle.session.specs.Auctions.{auctioned, tradesNow}
+use Rattle.session.specs.State.{freshSession}
+use Rattle.session.specs.Entry.{started, entered, deleted}
+use Rattle.session.specs.Auctions.{auctionChecks, auctioned, tradesNow}
+use Rattle.refusals.specs.Checks.{answered}
 use Rattle.records.specs.declared.{Record.Record}
 use Rattle.records.specs.Walk.{walk}
 use Rattle.lines.specs.declared.{Word.Word, Line.Line}
@@ -36,10 +36,8 @@ abbrev pub deleteStep : Deleted → Step
 deleteStep r = record { session = r .session; line = numberedLine Word.Delete (r .answer) 0; trades = [] }
 
 -- the trades of an auction that was not refused
-abbrev pub tradesAnswered : ℕ → AuctionMade → Session → List Trade
-tradesAnswered (suc n) which s = []
-tradesAnswered zero AuctionMade.Refused s = []
-tradesAnswered zero (AuctionMade.Good a) s = tradesNow s a
+abbrev pub tradesAnswered : Session → ℕ → List Trade
+tradesAnswered s which = answered (auctionChecks s which tradeListLength) (λ n. []) (tradesNow s (auctionFrom which))
 
 -- the four numbers of an auction's line
 abbrev pub auctionLine : ℕ → AuctionAnswer → Line
@@ -50,11 +48,10 @@ abbrev pub auctionStep : Auctioned → List Trade → Step
 auctionStep r trades = record { session = r .session; line = auctionLine (r .answer) (r .result); trades = trades }
 
 abbrev pub step : Session → Record → Step
-step s (Record.Start p) = startStep (started s (parametersFrom (p .step) (p .reference) (p .factor) (p .threshold) (p .most)))
+step s (Record.Start p) = startStep (started s p)
 step s (Record.Order e) = orderStep (entered s e)
 step s (Record.Delete d) = deleteStep (deleted s (d .number) (d .member))
-step s (Record.Auction which) =
-    auctionStep (auctioned s which lent .returned) (tradesAnswered (auctioned s which lent .returned .answer) (auctionOf which) s)
+step s (Record.Auction which) = auctionStep (auctioned s which lent .returned) (tradesAnswered s which)
 
 -- the lines of a record, at its place from 1
 abbrev pub stepLines : ℕ → Step → List ℕ
@@ -62,14 +59,14 @@ stepLines place r = lineOf place (r .line) ++ tradeLines (r .trades)
 
 -- the fault, if one ended the walk, and the count of records answered
 abbrev pub lastLines : ℕ → Bool → List ℕ
-lastLines answered true = faultLine (suc answered) ++ endLine answered
-lastLines answered false = endLine answered
+lastLines count true = faultLine (suc count) ++ endLine count
+lastLines count false = endLine count
 
 unfoldable pub linesFrom : Session → ℕ → List Record → Bool → List ℕ
-linesFrom s answered [] faulty = lastLines answered faulty
-linesFrom s answered (r ∷ rs) faulty =
+linesFrom s count [] faulty = lastLines count faulty
+linesFrom s count (r ∷ rs) faulty =
     let done = step s r in
-    stepLines (suc answered) done ++ linesFrom (done .session) (suc answered) rs faulty
+    stepLines (suc count) done ++ linesFrom (done .session) (suc count) rs faulty
 
 -- what is printed for a file
 abbrev pub printed : List ℕ → List ℕ

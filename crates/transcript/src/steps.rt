@@ -17,6 +17,7 @@ use session::delete_effect;
 use session::order_effect;
 use terms::Parameters;
 use terms::Place;
+use terms::Price;
 use terms::Start;
 ghost use mathlib.Core.Path.{_≡_};
 ghost use Prim.Native.Nat.{_+_, _≤_};
@@ -53,7 +54,7 @@ pub(crate) fn doing_of<'a>(
     asked: Record,
     phase: Phase,
     parameters: Parameters,
-    reference: u32,
+    reference: Price,
     given: u32,
     taken: &'a [u64; WORDS],
     numbers: &'a [u32; Place::COUNT],
@@ -91,7 +92,7 @@ pub(crate) fn start_written(
     requires { ⌜ Sound session × (at + lineRoom ≤ length (now out)) ⌝ }
     ensures { λ r. ⌜ WroteStep place (now (out .entry)) (now (out .exit)) at r (step session (Start·record p)) ⌝ }
 {
-    let r = session.start(p.step, p.reference, p.factor, p.threshold, p.most);
+    let r = session.start(p);
     let end = line_of(
         out,
         at,

@@ -30,7 +30,7 @@ ghost use Prim.Native.Nat.{_+_, _≤_, _<_, _^_};
 ghost use lib.ListN.{length, take};
 ghost use Rattle.terms.specs.Bounds.{tradeListLength};
 ghost use mathlib.Core.Bool.{true};
-ghost use Rattle.session.specs.Entry.{freshSession};
+ghost use Rattle.session.specs.State.{freshSession};
 ghost use Rattle.session.specs.Sound.{Sound};
 ghost use Rattle.lines.specs.Put.{Wrote, put};
 ghost use Rattle.transcript.specs.Told.{front as Told·front, recordsTold, haltOf, lastOf, lastRoom, faults, tellingLeaves, told as Told·told};

@@ -2,14 +2,14 @@
 use mathlib.Core.Path.{_≡_, refl}
 use mathlib.Core.List.{[], _∷_}
 use lib.ListN.{replicate}
-use Rattle.terms.specs.declared.orders.{Limit.the-variants.Unlimited, Limit.the-variants.At}
 use Rattle.book.specs.Resting.{resting}
 use Rattle.session.specs.declared.{Session.Session}
-use Rattle.session.specs.Entry.{freshSession, entered, deleted}
+use Rattle.session.specs.State.{freshSession}
+use Rattle.session.specs.Entry.{entered, deleted}
 use Rattle.session.specs.Auctions.{auctioned, theoretical}
 use Rattle.session.specs.Queues.{queued}
 use Rattle.worked.specs.Computing.{computing}
-use Rattle.worked.specs.Samples.{startedAt, entry, buy, sell, enter, answered, after, openingOf, numbers}
+use Rattle.worked.specs.Samples.{startedAt, entry, buy, sell, enter, auctionAnswered, after, openingOf, numbers}
 
 -- empty book: outcome 2
 empty-book : openingOf 100_000 [] ≡ numbers 2 0 0 0
@@ -19,13 +19,13 @@ empty-book = refl
 -- unlimited buy 50 at-the-close, day sell 30 at 100,200: the opening is outcome 2;
 -- a closing with nothing else entered trades 30 at 100,200 and leaves no order
 abbrev atClose : Session
-atClose = enter (startedAt 100_000) (entry 1 2 50 Unlimited ∷ sell 30 100_200 ∷ [])
+atClose = enter (startedAt 100_000) (entry 1 2 50 0 ∷ sell 30 100_200 ∷ [])
 
-opens-without : answered 1 atClose ≡ numbers 2 0 0 0
+opens-without : auctionAnswered 1 atClose ≡ numbers 2 0 0 0
 unfolding computing
 opens-without = refl
 
-closes-with : answered 2 (after 1 atClose) ≡ numbers 1 100_200 30 1
+closes-with : auctionAnswered 2 (after 1 atClose) ≡ numbers 1 100_200 30 1
 unfolding computing
 closes-with = refl
 
@@ -60,7 +60,7 @@ unfolding computing
 list-written = refl
 
 -- checks in their order: a field, then the start, then the phase, then the step
-field-first : entered freshSession (entry 3 1 0 (At 1)) .answer ≡ 1
+field-first : entered freshSession (entry 3 1 0 1) .answer ≡ 1
 unfolding computing
 field-first = refl
 
@@ -68,7 +68,7 @@ start-next : entered freshSession (buy 10 100_000) .answer ≡ 2
 unfolding computing
 start-next = refl
 
-phase-next : entered (after 1 (startedAt 100_000)) (entry 1 1 10 (At 100_001)) .answer ≡ 4
+phase-next : entered (after 1 (startedAt 100_000)) (entry 1 1 10 100_001) .answer ≡ 4
 unfolding computing
 phase-next = refl
 

@@ -2,7 +2,7 @@
 use mathlib.Core.Path.{_≡_, refl}
 use mathlib.Core.List.{[], _∷_}
 use Rattle.worked.specs.Computing.{computing}
-use Rattle.worked.specs.Samples.{startedAt, buy, sell, buyAny, sellAny, entryAnswer, enter, answered, after, openingOf, numbers}
+use Rattle.worked.specs.Samples.{startedAt, buy, sell, buyAny, sellAny, entryAnswer, enter, auctionAnswered, after, openingOf, numbers}
 
 pub record PTable : Type 0 where
   -- limit 899,900 passes 6; 900,000 doesn't
@@ -27,7 +27,7 @@ pub record PTable : Type 0 where
       × (openingOf 101_000 (buy 100 100_400 ∷ buy 20 100_200 ∷ sell 100 99_800 ∷ sell 20 100_400 ∷ []) ≡ numbers 1 100_400 100 1)
   -- buy 10 and sell 10 at 101,500: Delayed; asked again, it opens; at 101,400 it opens at once
   pub P10 : (openingOf 100_000 (buy 10 101_500 ∷ sell 10 101_500 ∷ []) ≡ numbers 4 101_500 10 0)
-      × (answered 1 (after 1 (enter (startedAt 100_000) (buy 10 101_500 ∷ sell 10 101_500 ∷ []))) ≡ numbers 1 101_500 10 1)
+      × (auctionAnswered 1 (after 1 (enter (startedAt 100_000) (buy 10 101_500 ∷ sell 10 101_500 ∷ []))) ≡ numbers 1 101_500 10 1)
       × (openingOf 100_000 (buy 10 101_400 ∷ sell 10 101_400 ∷ []) ≡ numbers 1 101_400 10 1)
 
 -- B1.

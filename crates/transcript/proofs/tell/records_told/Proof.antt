@@ -33,7 +33,7 @@ abbrev turn : tie.After-known-told Inv-loop μ-loop → tie.At-loop Inv-loop μ-
 turn c = c .before .before .before .before .before
 
 abbrev asked : tie.After-doing-of Inv-loop μ-loop → tie.After-known-told Inv-loop μ-loop
-asked c = c .before .before .before .before .before .before
+asked c = c .before .before .before .before .before .before .before
 
 -- the record that is told next brings the place further, and there is room for its lines
 onward : (c : tie.After-known-told Inv-loop μ-loop) → let l = turn c .loop in
@@ -82,7 +82,10 @@ add-count c =
     omega (arith, begun (turn c) .pre .2, turn c .loop .inv .0 .counted, f .0, f .1)
 
 doing-of-requires : tie.Need-doing-of-requires Inv-loop μ-loop
-doing-of-requires c κs = let s = turn (c .before .before .before .before .before) .loop .present in sound-numbered (s .parameters .step) (s .given) (s .book) (turn (c .before .before .before .before .before) .loop .inv .0 .sound .book-sound)
+doing-of-requires c κs =
+    let l = turn (c .before .before .before .before .before .before) .loop in
+    let s = l .present in
+    sound-numbered (s .parameters .step .0) (s .given) (s .book) (l .inv .0 .sound .book-sound)
 
 enum-known-doing : tie.Need-enum-known-doing Inv-loop μ-loop
 enum-known-doing c = search needs
