@@ -1,37 +1,35 @@
 -- Every call: one answer (A2), refusals given exactly when (A4), and a refusal changes nothing (A5). The promises themselves (A1) stand
 -- with the calls; each is an equation with the definition named here.
-use Prim.Native.Nat.{ℕ, zero, suc, _<_}
-use mathlib.Core.Bool.{not, _&&_}
+use Prim.Native.Nat.{ℕ, _<_}
+use mathlib.Core.Bool.{not, _&&_, _||_}
 use mathlib.Core.Logic.{_↔_, _≢_}
-use mathlib.Core.Path.{_≡_, refl, sym, _∙_}
+use mathlib.Core.Path.{_≡_, refl, sym, ap, _∙_}
 use mathlib.Core.List.{List, []}
 use lib.Dec.{T, leb, ltb, eqb}
 use lib.ListN.{length}
 use Rattle.lists.specs.Choice.{any}
 use Rattle.terms.specs.Bounds.{places, maxNumber, tradeListLength}
 use Rattle.terms.specs.Kinds.{isNumber, isMember}
-use Rattle.terms.specs.Orders.{isEntry, isSide, isAuction, sideOf, auctionOf}
-use Rattle.terms.specs.Made.{auction-made}
-use Rattle.terms.specs.Parameters.{areParameters}
-use Rattle.terms.specs.declared.orders.{Side.Side, SideMade.SideMade, Auction.Auction, AuctionMade.AuctionMade, Entry.Entry}
-use Rattle.terms.specs.declared.parameters.{Parameters.Parameters}
+use Rattle.terms.specs.Orders.{isEntry, orderFrom, isSide, isAuction, sideFrom, auctionFrom}
+use Rattle.terms.specs.Parameters.{isStart}
+use Rattle.terms.specs.declared.orders.{Entry.Entry}
+use Rattle.terms.specs.declared.parameters.{Start.Start}
 use Rattle.places.specs.Places.{countTaken}
 use Rattle.book.specs.Resting.{resting, isOf}
-use Rattle.session.specs.declared.{Session.Session, Started.Started, Entered.Entered, Deleted.Deleted, Foreseen.Foreseen}
 use Rattle.refusals.specs.Phases.{hasStarted, allowsOrder, allowsAuction}
 use Rattle.refusals.specs.Controls.{offStep, reachesCollar, reachesMost, reachesMostAtReference}
-use Rattle.refusals.specs.Checks.{Check, firstHit}
+use Rattle.refusals.specs.Checks.{Check, firstHit, answered-number, answered-not-done}
 use Rattle.refusals.specs.Exactly.{ruleOf, earlier, NoneHit, wellNumbered, none-hit, given-exactly-when}
-use Rattle.session.specs.Queues.{QueueLeaves, rankedChecks, rankedAnswer, queued, FrontAnswer, frontChecks, frontAnswer, filledFront, front-side}
-use Rattle.session.specs.QueueCalls.{queue-made}
-use Rattle.lists.specs.Tests.{test-holds}
-use Rattle.session.specs.Auctions.{AuctionLeaves, noAnswer, auctionChecks, auctionRefused, auctionAnswer, auctioned, theoreticalChecks, theoreticalAnswer, theoretical}
-use Rattle.session.specs.Entry.{freshSession, startChecks, startAnswer, started, orderChecks, orderAnswer, entered, deleteChecks, deleteAnswer, deleted}
+use Rattle.session.specs.declared.{Session.Session, Started.Started, Entered.Entered, Deleted.Deleted, Foreseen.Foreseen}
+use Rattle.session.specs.State.{freshSession}
+use Rattle.session.specs.Entry.{startChecks, startRefused, startDone, started, controlReference, orderChecks, orderRefused, orderDone, entered, deleteChecks, deleteRefused, deleteDone, deleted}
+use Rattle.session.specs.Auctions.{AuctionLeaves, noAnswer, auctionChecks, auctionRefused, auctionDone, auctioned, theoreticalChecks, theoreticalRefused, theoreticalDone, theoretical}
+use Rattle.session.specs.Queues.{QueueLeaves, rankedChecks, queueRefused, queueDone, rankedNumbers, queued, FrontAnswer, frontChecks, frontRefused, frontDone, filledFront}
 
 -- A2. Any two outcomes that a promise allows are equal.
 pub record OneAnswer : Type 0 where
   pub of-fresh : (r q : Session) → r ≡ freshSession → q ≡ freshSession → r ≡ q
-  pub of-start : (s : Session) (p : Parameters) (r q : Started) → r ≡ started s p → q ≡ started s p → r ≡ q
+  pub of-start : (s : Session) (x : Start) (r q : Started) → r ≡ started s x → q ≡ started s x → r ≡ q
   pub of-order : (s : Session) (e : Entry) (r q : Entered) → r ≡ entered s e → q ≡ entered s e → r ≡ q
   pub of-delete : (s : Session) (number member : ℕ) (r q : Deleted) → r ≡ deleted s number member → q ≡ deleted s number member → r ≡ q
   pub of-auction : (s : Session) (which : ℕ) (list : List ℕ) (r q : AuctionLeaves) → r ≡ auctioned s which list → q ≡ auctioned s which list → r ≡ q
@@ -42,7 +40,7 @@ pub record OneAnswer : Type 0 where
 pub one-answer : OneAnswer
 one-answer = record {
   of-fresh = λ r q h k. h ∙ sym k;
-  of-start = λ s p r q h k. h ∙ sym k;
+  of-start = λ s x r q h k. h ∙ sym k;
   of-order = λ s e r q h k. h ∙ sym k;
   of-delete = λ s number member r q h k. h ∙ sym k;
   of-auction = λ s which list r q h k. h ∙ sym k;
@@ -59,83 +57,68 @@ pub record ExactlyWhen (answer : ℕ) (checks : List Check) : Type 0 where
 exactly : (checks : List Check) → T (wellNumbered checks) → (answer : ℕ) → answer ≡ firstHit checks → ExactlyWhen answer checks
 exactly checks w answer e = rw e (record { done = none-hit checks w; refused = given-exactly-when checks w })
 
-start-answer : (n : ℕ) (s : Session) (p : Parameters) → startAnswer n s p .answer ≡ n
-start-answer zero s p = refl
-start-answer (suc n) s p = refl
-
-order-answer : (n : ℕ) (s : Session) (e : Entry) → orderAnswer n s e .answer ≡ n
-order-answer zero s e = refl
-order-answer (suc n) s e = refl
-
-delete-answer : (n : ℕ) (s : Session) (number member : ℕ) → deleteAnswer n s number member .answer ≡ n
-delete-answer zero s number member = refl
-delete-answer (suc n) s number member = refl
-
-pub start-exactly : (s : Session) (p : Parameters) → ExactlyWhen (started s p .answer) (startChecks s p)
+-- each call's answer is the first hit of its checks
+pub start-answer : (s : Session) (x : Start) → started s x .answer ≡ firstHit (startChecks s x)
 unfolding started
-start-exactly s p = exactly (startChecks s p) tt _ (start-answer (firstHit (startChecks s p)) s p)
+start-answer s x = answered-number (startChecks s x) (startRefused s) (startDone s x) (λ (r : Started). r .answer) (λ n. refl) refl
+
+pub order-answer : (s : Session) (e : Entry) → entered s e .answer ≡ firstHit (orderChecks s e)
+unfolding entered
+order-answer s e = answered-number (orderChecks s e) (orderRefused s) (orderDone s e) (λ (r : Entered). r .answer) (λ n. refl) refl
+
+pub delete-answer : (s : Session) (number member : ℕ) → deleted s number member .answer ≡ firstHit (deleteChecks s number member)
+unfolding deleted
+delete-answer s number member = answered-number (deleteChecks s number member) (deleteRefused s) (deleteDone s number member) (λ (r : Deleted). r .answer) (λ n. refl) refl
+
+pub auction-answer : (s : Session) (which : ℕ) (list : List ℕ) → auctioned s which list .returned .answer ≡ firstHit (auctionChecks s which (length list))
+unfolding auctioned
+auction-answer s which list = answered-number (auctionChecks s which (length list)) (auctionRefused s list) (auctionDone s (auctionFrom which) list) (λ (l : AuctionLeaves). l .returned .answer) (λ n. refl) refl
+
+pub theoretical-answer : (s : Session) (which : ℕ) → theoretical s which .answer ≡ firstHit (theoreticalChecks s which)
+unfolding theoretical
+theoretical-answer s which = answered-number (theoreticalChecks s which) (theoreticalRefused) (theoreticalDone s (auctionFrom which)) (λ (r : Foreseen). r .answer) (λ n. refl) refl
+
+pub ranked-answer : (s : Session) (side which : ℕ) (list : List ℕ) → queued s side which list .returned .answer ≡ firstHit (rankedChecks s side which (length list))
+unfolding queued
+ranked-answer s side which list = answered-number (rankedChecks s side which (length list)) (queueRefused list) (queueDone list (rankedNumbers s (sideFrom side) (auctionFrom which))) (λ (l : QueueLeaves). l .returned .answer) (λ n. refl) refl
+
+pub front-answer : (buys sells : List ℕ) (side total : ℕ) → filledFront buys sells side total .answer ≡ firstHit (frontChecks buys sells side)
+unfolding filledFront
+front-answer buys sells side total =
+    answered-number (frontChecks buys sells side) frontRefused (frontDone (sideFrom side) buys sells total) (λ (r : FrontAnswer). r .answer) (λ n. refl) refl
+
+pub start-exactly : (s : Session) (x : Start) → ExactlyWhen (started s x .answer) (startChecks s x)
+start-exactly s x = exactly (startChecks s x) tt _ (start-answer s x)
 
 pub order-exactly : (s : Session) (e : Entry) → ExactlyWhen (entered s e .answer) (orderChecks s e)
-unfolding entered
-order-exactly s e = exactly (orderChecks s e) tt _ (order-answer (firstHit (orderChecks s e)) s e)
+order-exactly s e = exactly (orderChecks s e) tt _ (order-answer s e)
 
 pub delete-exactly : (s : Session) (number member : ℕ) → ExactlyWhen (deleted s number member .answer) (deleteChecks s number member)
-unfolding deleted
-delete-exactly s number member = exactly (deleteChecks s number member) tt _ (delete-answer (firstHit (deleteChecks s number member)) s number member)
-
--- .. of the calls that name an auction: where no check hits, it is one
-auction-answer : (n : ℕ) (made : AuctionMade) (s : Session) (list : List ℕ) → (n ≡ 0 → (a : Auction) × (made ≡ AuctionMade.Good a)) → auctionAnswer n made s list .returned .answer ≡ n
-auction-answer (suc n) made s list h = refl
-auction-answer zero made s list h = let (a, i) = h refl in rw i
-
-theoretical-answer : (n : ℕ) (made : AuctionMade) (s : Session) → (n ≡ 0 → (a : Auction) × (made ≡ AuctionMade.Good a)) → theoreticalAnswer n made s .answer ≡ n
-theoretical-answer (suc n) made s h = refl
-theoretical-answer zero made s h = let (a, i) = h refl in rw i
-
-ranked-answer : (n : ℕ) (on : SideMade) (made : AuctionMade) (s : Session) (list : List ℕ)
-    → (n ≡ 0 → ((sd : Side) × (on ≡ SideMade.Good sd)) × ((a : Auction) × (made ≡ AuctionMade.Good a))) → rankedAnswer n on made s list .returned .answer ≡ n
-ranked-answer (suc n) on made s list h = refl
-ranked-answer zero on made s list h = let ((sd, i), (a, j)) = h refl in rw (i, j)
+delete-exactly s number member = exactly (deleteChecks s number member) tt _ (delete-answer s number member)
 
 pub auction-exactly : (s : Session) (which : ℕ) (list : List ℕ) → ExactlyWhen (auctioned s which list .returned .answer) (auctionChecks s which (length list))
-unfolding auctioned
-auction-exactly s which list =
-    exactly (auctionChecks s which (length list)) tt _
-    (auction-answer (firstHit (auctionChecks s which (length list))) (auctionOf which) s list
-    (λ h. auction-made which (test-holds (isAuction which) (none-hit (auctionChecks s which (length list)) tt .0 h .0))))
+auction-exactly s which list = exactly (auctionChecks s which (length list)) tt _ (auction-answer s which list)
 
 pub theoretical-exactly : (s : Session) (which : ℕ) → ExactlyWhen (theoretical s which .answer) (theoreticalChecks s which)
-unfolding theoretical
-theoretical-exactly s which =
-    exactly (theoreticalChecks s which) tt _
-    (theoretical-answer (firstHit (theoreticalChecks s which)) (auctionOf which) s
-    (λ h. auction-made which (test-holds (isAuction which) (none-hit (theoreticalChecks s which) tt .0 h .0))))
+theoretical-exactly s which = exactly (theoreticalChecks s which) tt _ (theoretical-answer s which)
 
 pub ranked-exactly : (s : Session) (side which : ℕ) (list : List ℕ) → ExactlyWhen (queued s side which list .returned .answer) (rankedChecks s side which (length list))
-unfolding queued
-ranked-exactly s side which list =
-    exactly (rankedChecks s side which (length list)) tt _
-    (ranked-answer (firstHit (rankedChecks s side which (length list))) (sideOf side) (auctionOf which) s list (queue-made s side which (length list)))
-
-front-answer : (n : ℕ) (made : SideMade) (buys sells : List ℕ) (total : ℕ) → (n ≡ 0 → (sd : Side) × (made ≡ SideMade.Good sd)) → frontAnswer n made buys sells total .answer ≡ n
-front-answer (suc n) made buys sells total h = refl
-front-answer zero made buys sells total h = let (sd, i) = h refl in rw i
+ranked-exactly s side which list = exactly (rankedChecks s side which (length list)) tt _ (ranked-answer s side which list)
 
 pub front-exactly : (buys sells : List ℕ) (side total : ℕ) → ExactlyWhen (filledFront buys sells side total .answer) (frontChecks buys sells side)
-unfolding filledFront
-front-exactly buys sells side total = exactly (frontChecks buys sells side) tt _ (front-answer (firstHit (frontChecks buys sells side)) (sideOf side) buys sells total (front-side buys sells side))
+front-exactly buys sells side total = exactly (frontChecks buys sells side) tt _ (front-answer buys sells side total)
 
 -- The rules one by one, as the table of 01 has them.
 pub record Rules (s : Session) : Type 0 where
-  pub start-1 : (p : Parameters) → ruleOf 1 (startChecks s p) ≡ not (areParameters (p .step) (p .reference) (p .factor) (p .threshold) (p .most))
-  pub start-3 : (p : Parameters) → ruleOf 3 (startChecks s p) ≡ hasStarted (s .phase)
+  pub start-1 : (x : Start) → ruleOf 1 (startChecks s x) ≡ not (isStart x)
+  pub start-3 : (x : Start) → ruleOf 3 (startChecks s x) ≡ hasStarted (s .phase)
   pub order-1 : (e : Entry) → ruleOf 1 (orderChecks s e) ≡ not (isEntry e)
   pub order-2 : (e : Entry) → ruleOf 2 (orderChecks s e) ≡ not (hasStarted (s .phase))
-  pub order-4 : (e : Entry) → ruleOf 4 (orderChecks s e) ≡ not (allowsOrder (s .phase) (e .validity))
-  pub order-5 : (e : Entry) → ruleOf 5 (orderChecks s e) ≡ offStep (s .parameters .step) (e .limit)
-  pub order-6 : (e : Entry) → ruleOf 6 (orderChecks s e) ≡ reachesCollar (s .reference) (s .parameters .factor) (e .limit)
-  pub order-7 : (e : Entry) → ruleOf 7 (orderChecks s e) ≡ reachesMost (s .parameters .most) (e .quantity) (e .limit)
-  pub order-8 : (e : Entry) → ruleOf 8 (orderChecks s e) ≡ reachesMostAtReference (s .parameters .most) (e .quantity) (s .reference)
+  pub order-4 : (e : Entry) → ruleOf 4 (orderChecks s e) ≡ not (allowsOrder (s .phase) (orderFrom e .validity))
+  pub order-5 : (e : Entry) → ruleOf 5 (orderChecks s e) ≡ offStep (s .parameters .step) (orderFrom e .limit)
+  pub order-6 : (e : Entry) → ruleOf 6 (orderChecks s e) ≡ reachesCollar (controlReference s) (s .parameters .factor) (orderFrom e .limit)
+  pub order-7 : (e : Entry) → ruleOf 7 (orderChecks s e) ≡ reachesMost (s .parameters .most) (orderFrom e .quantity) (orderFrom e .limit)
+  pub order-8 : (e : Entry) → ruleOf 8 (orderChecks s e) ≡ reachesMostAtReference (s .parameters .most) (orderFrom e .quantity) (controlReference s)
   pub order-9 : (e : Entry) → ruleOf 9 (orderChecks s e) ≡ leb maxNumber (s .given)
   pub order-10 : (e : Entry) → ruleOf 10 (orderChecks s e) ≡ eqb (countTaken (s .book .taken)) places
   pub delete-1 : (number member : ℕ) → ruleOf 1 (deleteChecks s number member) ≡ not (isNumber number && isMember member)
@@ -143,19 +126,20 @@ pub record Rules (s : Session) : Type 0 where
   pub delete-11 : (number member : ℕ) → ruleOf 11 (deleteChecks s number member) ≡ not (any (isOf number member) (resting (s .book)))
   pub auction-1 : (which size : ℕ) → ruleOf 1 (auctionChecks s which size) ≡ not (isAuction which)
   pub auction-2 : (which size : ℕ) → ruleOf 2 (auctionChecks s which size) ≡ not (hasStarted (s .phase))
-  pub auction-4 : (which size : ℕ) → ruleOf 4 (auctionChecks s which size) ≡ not (allowsAuction (s .phase) which)
+  pub auction-4 : (which size : ℕ) → ruleOf 4 (auctionChecks s which size) ≡ not (allowsAuction (s .phase) (auctionFrom which))
   pub auction-12 : (which size : ℕ) → ruleOf 12 (auctionChecks s which size) ≡ ltb size tradeListLength
   pub theoretical-1 : (which : ℕ) → ruleOf 1 (theoreticalChecks s which) ≡ not (isAuction which)
   pub theoretical-2 : (which : ℕ) → ruleOf 2 (theoreticalChecks s which) ≡ not (hasStarted (s .phase))
-  pub theoretical-4 : (which : ℕ) → ruleOf 4 (theoreticalChecks s which) ≡ not (allowsAuction (s .phase) which)
+  pub theoretical-4 : (which : ℕ) → ruleOf 4 (theoreticalChecks s which) ≡ not (allowsAuction (s .phase) (auctionFrom which))
   pub ranked-1 : (side which size : ℕ) → ruleOf 1 (rankedChecks s side which size) ≡ not (isSide side && isAuction which)
   pub ranked-2 : (side which size : ℕ) → ruleOf 2 (rankedChecks s side which size) ≡ not (hasStarted (s .phase))
   pub ranked-12 : (side which size : ℕ) → ruleOf 12 (rankedChecks s side which size) ≡ ltb size places
+  pub front-1 : (buys sells : List ℕ) (side : ℕ) → ruleOf 1 (frontChecks buys sells side) ≡ not (isSide side) || ltb places (length buys) || ltb places (length sells)
 
 pub rules : (s : Session) → Rules s
 rules s = record {
-  start-1 = λ p. refl;
-  start-3 = λ p. refl;
+  start-1 = λ x. refl;
+  start-3 = λ x. refl;
   order-1 = λ e. refl;
   order-2 = λ e. refl;
   order-4 = λ e. refl;
@@ -178,62 +162,56 @@ rules s = record {
   ranked-1 = λ side which size. refl;
   ranked-2 = λ side which size. refl;
   ranked-12 = λ side which size. refl;
+  front-1 = λ buys sells side. refl;
 }
 
 -- A5. A refusal changes nothing, every other number is 0, and every part is empty.
 pub record ChangesNothing (s : Session) : Type 0 where
-  pub start-refused : (p : Parameters) → started s p .answer ≢ 0 → started s p .session ≡ s
+  pub start-refused : (x : Start) → started s x .answer ≢ 0 → started s x .session ≡ s
   pub order-refused : (e : Entry) → entered s e .answer ≢ 0 → (entered s e .session ≡ s) × (entered s e .number ≡ 0)
   pub delete-refused : (number member : ℕ) → deleted s number member .answer ≢ 0 → deleted s number member .session ≡ s
-  pub auction-refused : (which : ℕ) (list : List ℕ) → auctioned s which list .returned .answer ≢ 0 → auctioned s which list ≡ auctionRefused (auctioned s which list .returned .answer) s list
+  pub auction-refused : (which : ℕ) (list : List ℕ) → auctioned s which list .returned .answer ≢ 0 → auctioned s which list ≡ auctionRefused s list (auctioned s which list .returned .answer)
   pub theoretical-refused : (which : ℕ) → theoretical s which .answer ≢ 0 → theoretical s which .result ≡ noAnswer
   pub ranked-refused : (side which : ℕ) (list : List ℕ) → queued s side which list .returned .answer ≢ 0 → (queued s side which list .list ≡ list) × (queued s side which list .returned .count ≡ 0)
 
+-- what a refused call returns and leaves is its refusal
+module _ (s : Session) where
+  start-is : (x : Start) → started s x .answer ≢ 0 → started s x ≡ startRefused s (started s x .answer)
+  unfolding started
+  start-is x = answered-not-done (startChecks s x) (startRefused s) (startDone s x) (λ (r : Started). r .answer) (λ n. refl) refl
+
+  order-is : (e : Entry) → entered s e .answer ≢ 0 → entered s e ≡ orderRefused s (entered s e .answer)
+  unfolding entered
+  order-is e = answered-not-done (orderChecks s e) (orderRefused s) (orderDone s e) (λ (r : Entered). r .answer) (λ n. refl) refl
+
+  delete-is : (number member : ℕ) → deleted s number member .answer ≢ 0 → deleted s number member ≡ deleteRefused s (deleted s number member .answer)
+  unfolding deleted
+  delete-is number member = answered-not-done (deleteChecks s number member) (deleteRefused s) (deleteDone s number member) (λ (r : Deleted). r .answer) (λ n. refl) refl
+
+  auction-is : (which : ℕ) (list : List ℕ) → auctioned s which list .returned .answer ≢ 0 → auctioned s which list ≡ auctionRefused s list (auctioned s which list .returned .answer)
+  unfolding auctioned
+  auction-is which list = answered-not-done (auctionChecks s which (length list)) (auctionRefused s list) (auctionDone s (auctionFrom which) list) (λ (l : AuctionLeaves). l .returned .answer) (λ n. refl) refl
+
+  theoretical-is : (which : ℕ) → theoretical s which .answer ≢ 0 → theoretical s which ≡ theoreticalRefused (theoretical s which .answer)
+  unfolding theoretical
+  theoretical-is which = answered-not-done (theoreticalChecks s which) (theoreticalRefused) (theoreticalDone s (auctionFrom which)) (λ (r : Foreseen). r .answer) (λ n. refl) refl
+
+  ranked-is : (side which : ℕ) (list : List ℕ) → queued s side which list .returned .answer ≢ 0 → queued s side which list ≡ queueRefused list (queued s side which list .returned .answer)
+  unfolding queued
+  ranked-is side which list = answered-not-done (rankedChecks s side which (length list)) (queueRefused list) (queueDone list (rankedNumbers s (sideFrom side) (auctionFrom which))) (λ (l : QueueLeaves). l .returned .answer) (λ n. refl) refl
+
 pub changes-nothing : (s : Session) → ChangesNothing s
-unfolding started entered deleted auctioned theoretical queued
 changes-nothing s = record {
-  start-refused = λ p. start (firstHit (startChecks s p)) p;
-  order-refused = λ e. order (firstHit (orderChecks s e)) e;
-  delete-refused = λ number member. delete (firstHit (deleteChecks s number member)) number member;
-  auction-refused = λ which list. auction (firstHit (auctionChecks s which (length list))) (auctionOf which) list;
-  theoretical-refused = λ which. foreseen (firstHit (theoreticalChecks s which)) (auctionOf which);
-  ranked-refused = λ side which list. ranked (firstHit (rankedChecks s side which (length list))) (sideOf side) (auctionOf which) list;
+  start-refused = λ x h. ap (λ (r : Started). r .session) (start-is s x h);
+  order-refused = λ e h. let i = order-is s e h in (ap (λ (r : Entered). r .session) i, ap (λ (r : Entered). r .number) i);
+  delete-refused = λ number member h. ap (λ (r : Deleted). r .session) (delete-is s number member h);
+  auction-refused = auction-is s;
+  theoretical-refused = λ which h. ap (λ (r : Foreseen). r .result) (theoretical-is s which h);
+  ranked-refused = λ side which list h. let i = ranked-is s side which list h in (ap (λ (l : QueueLeaves). l .list) i, ap (λ (l : QueueLeaves). l .returned .count) i);
 }
-  where
-    start : (n : ℕ) (p : Parameters) → startAnswer n s p .answer ≢ 0 → startAnswer n s p .session ≡ s
-    start zero p h = absurd (h refl)
-    start (suc n) p h = refl
-
-    order : (n : ℕ) (e : Entry) → orderAnswer n s e .answer ≢ 0 → (orderAnswer n s e .session ≡ s) × (orderAnswer n s e .number ≡ 0)
-    order zero e h = absurd (h refl)
-    order (suc n) e h = (refl, refl)
-
-    delete : (n : ℕ) (number member : ℕ) → deleteAnswer n s number member .answer ≢ 0 → deleteAnswer n s number member .session ≡ s
-    delete zero number member h = absurd (h refl)
-    delete (suc n) number member h = refl
-
-    auction : (n : ℕ) (made : AuctionMade) (list : List ℕ) → auctionAnswer n made s list .returned .answer ≢ 0 → auctionAnswer n made s list ≡ auctionRefused (auctionAnswer n made s list .returned .answer) s list
-    auction (suc n) made list h = refl
-    auction zero (AuctionMade.Good a) list h = absurd (h refl)
-    auction zero AuctionMade.Refused list h = refl
-
-    foreseen : (n : ℕ) (made : AuctionMade) → theoreticalAnswer n made s .answer ≢ 0 → theoreticalAnswer n made s .result ≡ noAnswer
-    foreseen (suc n) made h = refl
-    foreseen zero (AuctionMade.Good a) h = absurd (h refl)
-    foreseen zero AuctionMade.Refused h = refl
-
-    ranked : (n : ℕ) (on : SideMade) (made : AuctionMade) (list : List ℕ) → rankedAnswer n on made s list .returned .answer ≢ 0
-        → (rankedAnswer n on made s list .list ≡ list) × (rankedAnswer n on made s list .returned .count ≡ 0)
-    ranked (suc n) on made list h = (refl, refl)
-    ranked zero SideMade.Refused made list h = (refl, refl)
-    ranked zero (SideMade.Good sd) AuctionMade.Refused list h = (refl, refl)
-    ranked zero (SideMade.Good sd) (AuctionMade.Good a) list h = absurd (h refl)
 
 pub empty-part : (buys sells : List ℕ) (side total : ℕ) → filledFront buys sells side total .answer ≢ 0 → filledFront buys sells side total .part ≡ []
 unfolding filledFront
-empty-part buys sells side total = go (firstHit (frontChecks buys sells side)) (sideOf side)
-  where
-    go : (n : ℕ) (made : SideMade) → frontAnswer n made buys sells total .answer ≢ 0 → frontAnswer n made buys sells total .part ≡ []
-    go (suc n) made h = refl
-    go zero (SideMade.Good sd) h = absurd (h refl)
-    go zero SideMade.Refused h = refl
+empty-part buys sells side total h =
+    ap (λ (r : FrontAnswer). r .part)
+    (answered-not-done (frontChecks buys sells side) frontRefused (frontDone (sideFrom side) buys sells total) (λ (r : FrontAnswer). r .answer) (λ n. refl) refl h)

@@ -198,25 +198,25 @@ module _ (s : Session) (sound : Sound s) (a : Auction) (list : List ℕ) (room :
 
   moves-most : NoListMovesMore s a (auctionDone s a list)
   unfolding outcomeOf
-  moves-most = no-list-moves-more (heldBy s a) a (s .parameters .threshold) (s .reference) (resting (s .book)) ranged h
+  moves-most = no-list-moves-more (heldBy s a) a (s .parameters .threshold .0) (s .reference .0) (resting (s .book)) ranged h
 
   sold : BoughtIsSold s a (auctionDone s a list)
   unfolding outcomeOf
   sold =
-      let law = bought-is-sold (heldBy s a) a (s .parameters .threshold) (s .reference) (resting (s .book)) ranged h in
+      let law = bought-is-sold (heldBy s a) a (s .parameters .threshold .0) (s .reference .0) (resting (s .book)) ranged h in
       record { filled = law .filled; given = rw read-done (law .given); moved = rw read-done (law .moved) }
 
   ordered : NobodyPassedOver s a (auctionDone s a list)
   unfolding outcomeOf
-  ordered = rw read-done (nobody-passed-over (heldBy s a) a (s .parameters .threshold) (s .reference) (resting (s .book)) ranged h)
+  ordered = rw read-done (nobody-passed-over (heldBy s a) a (s .parameters .threshold .0) (s .reference .0) (resting (s .book)) ranged h)
 
   left-over : NothingLeft s a (auctionDone s a list)
   unfolding outcomeOf
   left-over =
-      let law = nothing-left-could-trade (heldBy s a) a (s .parameters .threshold) (s .reference) (resting (s .book)) ranged h in
+      let law = nothing-left-could-trade (heldBy s a) a (s .parameters .threshold .0) (s .reference .0) (resting (s .book)) ranged h in
       record {
         of-those = rw read-done law;
-        resting-after = λ q. rw changed-done (after-executable (s .parameters .step) (s .given) a (tradesNow s a) (s .book) (sound .book-sound) q (law q));
+        resting-after = λ q. rw changed-done (after-executable (s .parameters .step .0) (s .given) a (tradesNow s a) (s .book) (sound .book-sound) q (law q));
       }
 
   pairing-done : tradesNow s a ≡ paired (fills Buy (quantityAnswered (outcomeOf s a)) (part s a)) (fills Sell (quantityAnswered (outcomeOf s a)) (part s a))
@@ -232,7 +232,7 @@ module _ (s : Session) (sound : Sound s) (a : Auction) (list : List ℕ) (room :
   list-done : ListWritten s a list (auctionDone s a list)
   unfolding outcomeOf
   list-done =
-      let law = list-of-trades (heldBy s a) a (s .parameters .threshold) (s .reference) (resting (s .book)) ranged h in
+      let law = list-of-trades (heldBy s a) a (s .parameters .threshold .0) (s .reference .0) (resting (s .book)) ranged h in
       let price = priceAnswered (outcomeOf s a) in
       let rest = drop (numbersPerTrade * length (tradesNow s a)) list in
       let prices = prices-back price (tradesNow s a) rest in
@@ -256,7 +256,7 @@ module _ (s : Session) (sound : Sound s) (a : Auction) (list : List ℕ) (room :
   after-done : (p : ℕ) → p < places → AfterAt (restOf a (tradesNow s a)) (s .book) (sessionAfter s a (part s a) (outcomeOf s a) .book) p
   after-done =
       rw changed-done
-      (changed-at (s .parameters .step) (s .given) (restOf a (tradesNow s a)) (rest-keeps (s .parameters .step) (s .given) a (tradesNow s a)) (s .book) (sound .book-sound))
+      (changed-at (s .parameters .step .0) (s .given) (restOf a (tradesNow s a)) (rest-keeps (s .parameters .step .0) (s .given) a (tradesNow s a)) (s .book) (sound .book-sound))
 
   book-done : BookAfter s a (auctionDone s a list)
   book-done = record {

@@ -7,15 +7,16 @@ use mathlib.Core.Logic.{_⊎_, inl, inr, ⊎-elim, _↔_, _≢_}
 use mathlib.Core.Path.{_≡_, refl, sym, subst, _∙_}
 use mathlib.Core.List.{List, [], _∷_}
 use native.Mathlib.Omega.{arith}
-use borrow.Author.Tests.{le-ltb}
+use borrow.Author.Tests.{le-ltb, ltb-false}
 use lib.Dec.{T, leb}
 use lib.ListN.{length}
 use Rattle.lists.specs.Tests.{tests, and-both, test-holds}
 use Rattle.terms.specs.Bounds.{tradeListLength}
 use Rattle.terms.specs.Kinds.{isReference}
-use Rattle.terms.specs.Orders.{auctionNumber, isAuction, auctionOf}
-use Rattle.terms.specs.declared.orders.{Auction.Auction, Auction.the-variants.Opening, Auction.the-variants.Closing, AuctionMade.AuctionMade, Entry.Entry}
-use Rattle.terms.specs.declared.parameters.{Parameters.Parameters}
+use Rattle.terms.specs.Orders.{auctionNumber, isAuction, auctionFrom}
+use Rattle.terms.specs.Parameters.{parametersFrom}
+use Rattle.terms.specs.declared.orders.{Auction.Auction, Auction.the-variants.Opening, Auction.the-variants.Closing, Entry.Entry}
+use Rattle.terms.specs.declared.parameters.{Start.Start}
 use Rattle.book.specs.Resting.{resting}
 use Rattle.queue.specs.Part.{takingPart-distinct}
 use Rattle.queue.specs.Reach.{resting-sound}
@@ -26,27 +27,28 @@ use Rattle.auction.specs.Outcome.{outcome, prevented, reaches, delays, priced, 
 use Rattle.auction.specs.NonOpening.{Fillable, non-opening-exactly}
 use Rattle.trades.specs.Written.{written}
 use Rattle.refusals.specs.declared.phases.{Phase.the-variants.PreOpening}
-use Rattle.session.specs.declared.{Session.Session, AuctionAnswer.AuctionAnswer}
+use Rattle.session.specs.declared.{Session.Session, AuctionAnswer.AuctionAnswer, Started.Started, Entered.Entered, Deleted.Deleted, Foreseen.Foreseen}
+use Rattle.session.specs.State.{delayGiven}
 use Rattle.refusals.specs.Phases.{hasStarted, phaseAfter}
-use Rattle.refusals.specs.Checks.{firstHit}
-use Rattle.refusals.specs.Exactly.{none-hit}
-use Rattle.session.specs.Entry.{startChecks, startAnswer, started, orderChecks, orderAnswer, entered, deleteChecks, deleteAnswer, deleted}
+use Rattle.refusals.specs.Checks.{firstHit, answeredBy, answered-cases, answered-done}
+use Rattle.refusals.specs.Exactly.{clear}
+use Rattle.session.specs.Entry.{startChecks, startRefused, startDone, started, orderChecks, orderRefused, orderDone, entered, deleteChecks, deleteRefused, deleteDone, deleted}
 use Rattle.session.specs.Sound.{Sound}
-use Rattle.session.specs.Auctions.{AuctionLeaves, part, delayable, heldBy, outcomeOf, answerOf, delayGiven, sessionAfter, auctionLeaves, auctionChecks, auctionDone, auctionAnswer, auctioned, theoreticalChecks, theoreticalAnswer, theoretical}
-use Rattle.session.specs.AuctionCalls.{auction-started, auction-room, auction-carried-out}
-use Rattle.demands.specs.Answers.{auction-exactly}
-use Rattle.demands.specs.Sequences.{Call, after, run}
+use Rattle.session.specs.Auctions.{AuctionLeaves, part, delayable, heldBy, outcomeOf, answerOf, sessionAfter, auctionLeaves, auctionChecks, auctionRefused, auctionDone, auctioned, theoreticalChecks, theoreticalRefused, theoreticalDone, theoretical}
+use Rattle.demands.specs.Answers.{auction-answer}
+use Rattle.demands.specs.Sequences.{Act, Call, acted, after, run}
 use Rattle.demands.specs.Prices.{price-is-legal}
 use Rattle.demands.specs.Traded.{sound-ranged, every-closing-takes-place}
 
 -- an auction asked for by its number is that auction
-pub auction-numbered : (a : Auction) → auctionOf (auctionNumber a) ≡ AuctionMade.Good a
+pub auction-numbered : (a : Auction) → auctionFrom (auctionNumber a) ≡ a
 auction-numbered Opening = refl
 auction-numbered Closing = refl
 
 -- every auction that is not refused is asked for by such a number
 pub accepted-number : (s : Session) (which : ℕ) (list : List ℕ) → auctioned s which list .returned .answer ≡ 0 → (a : Auction) × (which ≡ auctionNumber a)
-accepted-number s which list accepted = named which (test-holds (isAuction which) (auction-exactly s which list .done .0 accepted .0))
+accepted-number s which list accepted =
+    named which (test-holds (isAuction which) (clear (auctionChecks s which (length list)) tt (sym accepted ∙ auction-answer s which list) 1))
   where
     named : (x : ℕ) → T (isAuction x) → (a : Auction) × (x ≡ auctionNumber a)
     named zero h = absurd h
@@ -60,25 +62,30 @@ pub record CarriedOut (s : Session) (a : Auction) (list : List ℕ) : Type 0 whe
   pub running : T (hasStarted (s .phase))
   pub room : tradeListLength ≤ length list
 
+done-leaves : (s : Session) (a : Auction) (list : List ℕ) → 0 ≡ firstHit (auctionChecks s (auctionNumber a) (length list)) → auctionDone s a list ≡ auctioned s (auctionNumber a) list
+unfolding auctioned
+done-leaves s a list h =
+    rw (← auction-numbered a) (answered-done (auctionChecks s (auctionNumber a) (length list)) (auctionRefused s list) (auctionDone s (auctionFrom (auctionNumber a)) list) h)
+
 pub carried-out : (s : Session) (a : Auction) (list : List ℕ) → auctioned s (auctionNumber a) list .returned .answer ≡ 0 → CarriedOut s a list
 carried-out s a list accepted =
     let checks = auctionChecks s (auctionNumber a) (length list) in
-    let h : firstHit checks ≡ 0 = none-hit checks tt .1 (auction-exactly s (auctionNumber a) list .done .0 accepted) in
+    let h : 0 ≡ firstHit checks = sym accepted ∙ auction-answer s (auctionNumber a) list in
     record {
-      leaves = sym (auction-carried-out s (auctionNumber a) list h a (auction-numbered a));
-      running = auction-started s (auctionNumber a) list h;
-      room = auction-room s (auctionNumber a) list h;
+      leaves = sym (done-leaves s a list h);
+      running = test-holds (hasStarted (s .phase)) (clear checks tt h 2);
+      room = ltb-false (length list) tradeListLength (clear checks tt h 12);
     }
 
 -- what decides the outcome: unlimited orders prevent it, the price, and whether that price delays it
 abbrev pub isPrevented : Session → Auction → Bool
-isPrevented s a = prevented (heldBy s a) (s .reference) (part s a)
+isPrevented s a = prevented (heldBy s a) (s .reference .0) (part s a)
 
 abbrev pub priceOf : Session → Auction → Option ℕ
-priceOf s a = auctionPrice (s .reference) (part s a)
+priceOf s a = auctionPrice (s .reference .0) (part s a)
 
 abbrev pub isDelayed : Session → Auction → ℕ → Bool
-isDelayed s a price = delays (heldBy s a) (s .parameters .threshold) (s .reference) price
+isDelayed s a price = delays (heldBy s a) (s .parameters .threshold .0) (s .reference .0) price
 
 -- B9, the order: Non Opening, Delayed Opening, then 1 with trades or 2 without; each number exactly when, and the price and quantity with it.
 pub record OutcomesInOrder (s : Session) (a : Auction) (r : AuctionAnswer) : Type 0 where
@@ -118,7 +125,7 @@ decided s a = prevents (isPrevented s a) refl
     }
 
     pricing : isPrevented s a ≡ false → (found : Option ℕ) → priceOf s a ≡ found
-        → OutcomesInOrder s a (answerOf (priced (heldBy s a) (s .parameters .threshold) (s .reference) (part s a) found) (part s a))
+        → OutcomesInOrder s a (answerOf (priced (heldBy s a) (s .parameters .threshold .0) (s .reference .0) (part s a) found) (part s a))
     pricing e none f = record {
       non-opening = ((λ i. absurd (omega arith)), (λ h. absurd (rw e at h)));
       delayed = ((λ i. absurd (omega arith)), (λ (h, (q, i, j)). absurd (Option·none-ne-some q (sym f ∙ i))));
@@ -131,7 +138,7 @@ decided s a = prevents (isPrevented s a) refl
     pricing e (some p) f = delaying p e f (isDelayed s a p) refl
 
     prevents : (b : Bool) → isPrevented s a ≡ b
-        → OutcomesInOrder s a (answerOf (cond b NonOpening (priced (heldBy s a) (s .parameters .threshold) (s .reference) (part s a) (priceOf s a))) (part s a))
+        → OutcomesInOrder s a (answerOf (cond b NonOpening (priced (heldBy s a) (s .parameters .threshold .0) (s .reference .0) (part s a) (priceOf s a))) (part s a))
     prevents true e = record {
       non-opening = ((λ i. rw e tt), (λ h. refl));
       delayed = ((λ i. absurd (omega arith)), (λ (h, x). absurd (rw e at h)));
@@ -150,7 +157,7 @@ outcomes-in-order s a list accepted = rw (carried-out s a list accepted .leaves)
 -- B9, the changes: the mark, the reference price and the phase change only as told, and the list is written with trades only.
 pub record OutcomeChanges (s : Session) (a : Auction) (list : List ℕ) (l : AuctionLeaves) : Type 0 where
   -- the price becomes the reference price, and the phase goes on
-  pub traded : l .returned .result .outcome ≡ 1 → (l .returned .session .reference ≡ l .returned .result .price) × (l .returned .session .phase ≡ phaseAfter a)
+  pub traded : l .returned .result .outcome ≡ 1 → (l .returned .session .reference .0 ≡ l .returned .result .price) × (l .returned .session .phase ≡ phaseAfter a)
   -- the phase goes on
   pub no-trade : l .returned .result .outcome ≡ 2 → (l .returned .session .reference ≡ s .reference) × (l .returned .session .phase ≡ phaseAfter a) × (l .list ≡ list)
   -- nothing changes
@@ -212,44 +219,34 @@ abbrev pub Standing : Session → Session → Type 0
 Standing s t = (t .phase ≡ s .phase) × (t .delayed ≡ s .delayed) × (t .parameters ≡ s .parameters) × (t .reference ≡ s .reference)
 
 pub record OthersKeep (s : Session) : Type 0 where
-  pub start : (p : Parameters) → started s p .answer ≡ 0
-      → (started s p .session .phase ≡ PreOpening) × (started s p .session .delayed ≡ s .delayed) × (started s p .session .parameters ≡ p) × (started s p .session .reference ≡ p .reference)
+  pub start : (x : Start) → started s x .answer ≡ 0
+      → (started s x .session .phase ≡ PreOpening) × (started s x .session .delayed ≡ s .delayed) × (started s x .session .parameters ≡ parametersFrom x)
+      × (started s x .session .reference .0 ≡ x .reference)
   pub order : (e : Entry) → Standing s (entered s e .session)
   pub delete : (number member : ℕ) → Standing s (deleted s number member .session)
 
 pub others-keep : (s : Session) → OthersKeep s
 unfolding started entered deleted
 others-keep s = record {
-  start = λ p. starts (firstHit (startChecks s p)) p;
-  order = λ e. orders (firstHit (orderChecks s e)) e;
-  delete = λ number member. deletes (firstHit (deleteChecks s number member)) number member;
+  start = λ x.
+      answered-cases (startChecks s x) (startRefused s) (startDone s x)
+      (λ (r : Started). r .answer ≡ 0 → (r .session .phase ≡ PreOpening) × (r .session .delayed ≡ s .delayed) × (r .session .parameters ≡ parametersFrom x) × (r .session .reference .0 ≡ x .reference))
+      (λ n h e z. absurd (h z)) (λ e z. (refl, refl, refl, refl));
+  order = λ e.
+      answered-cases (orderChecks s e) (orderRefused s) (orderDone s e) (λ (r : Entered). Standing s (r .session)) (λ n h i. (refl, refl, refl, refl)) (λ i. (refl, refl, refl, refl));
+  delete = λ number member.
+      answered-cases (deleteChecks s number member) (deleteRefused s) (deleteDone s number member) (λ (r : Deleted). Standing s (r .session)) (λ n h i. (refl, refl, refl, refl)) (λ i. (refl, refl, refl, refl));
 }
-  where
-    starts : (n : ℕ) (p : Parameters) → startAnswer n s p .answer ≡ 0
-        → (startAnswer n s p .session .phase ≡ PreOpening) × (startAnswer n s p .session .delayed ≡ s .delayed) × (startAnswer n s p .session .parameters ≡ p)
-        × (startAnswer n s p .session .reference ≡ p .reference)
-    starts zero p h = (refl, refl, refl, refl)
-    starts (suc n) p h = absurd (omega arith)
-
-    orders : (n : ℕ) (e : Entry) → Standing s (orderAnswer n s e .session)
-    orders zero e = (refl, refl, refl, refl)
-    orders (suc n) e = (refl, refl, refl, refl)
-
-    deletes : (n number member : ℕ) → Standing s (deleteAnswer n s number member .session)
-    deletes zero number member = (refl, refl, refl, refl)
-    deletes (suc n) number member = (refl, refl, refl, refl)
 
 -- the mark, once set, stays, and holds off another delay
-mark-stays : (s : Session) (c : Call) → s .delayed ≡ true → after s c .delayed ≡ true
+mark-stays : (s : Session) (c : Act) → s .delayed ≡ true → acted s c .delayed ≡ true
 unfolding started auctioned
-mark-stays s (Call.start p) e = starts (firstHit (startChecks s p))
-  where
-    starts : (n : ℕ) → startAnswer n s p .session .delayed ≡ true
-    starts zero = e
-    starts (suc n) = e
-mark-stays s (Call.order o) e = others-keep s .order o .1 ∙ e
-mark-stays s (Call.delete number member) e = others-keep s .delete number member .1 ∙ e
-mark-stays s (Call.auction which list) e = auctions (firstHit (auctionChecks s which (length list))) (auctionOf which)
+mark-stays s (Act.start x) e = answered-cases (startChecks s x) (startRefused s) (startDone s x) (λ (r : Started). r .session .delayed ≡ true) (λ n h i. e) (λ i. e)
+mark-stays s (Act.order o) e = others-keep s .order o .1 ∙ e
+mark-stays s (Act.delete number member) e = others-keep s .delete number member .1 ∙ e
+mark-stays s (Act.auction which list) e =
+    answered-cases (auctionChecks s which (length list)) (auctionRefused s list) (auctionDone s (auctionFrom which) list) (λ (l : AuctionLeaves). l .returned .session .delayed ≡ true)
+    (λ n h i. e) (λ i. outcomes (auctionFrom which) (outcomeOf s (auctionFrom which)))
   where
     outcomes : (a : Auction) (o : Outcome) → sessionAfter s a (part s a) o .delayed ≡ true
     outcomes a (Traded price quantity) = e
@@ -257,46 +254,39 @@ mark-stays s (Call.auction which list) e = auctions (firstHit (auctionChecks s w
     outcomes a NonOpening = e
     outcomes a (Delayed price quantity) = refl
 
-    auctions : (n : ℕ) (made : AuctionMade) → auctionAnswer n made s list .returned .session .delayed ≡ true
-    auctions (suc n) made = e
-    auctions zero AuctionMade.Refused = e
-    auctions zero (AuctionMade.Good a) = outcomes a (outcomeOf s a)
-mark-stays s (Call.theoretical which) e = e
-mark-stays s (Call.ranked side which list) e = e
-mark-stays s (Call.filledFront buys sells side total) e = e
-
 marked-run : (s : Session) (cs : List Call) → s .delayed ≡ true → run s cs .delayed ≡ true
 marked-run s [] e = e
-marked-run s (c ∷ cs) e = marked-run (after s c) cs (mark-stays s c e)
+marked-run s (Call.act c ∷ cs) e = marked-run (acted s c) cs (mark-stays s c e)
+marked-run s (Call.look l ∷ cs) e = marked-run s cs e
 
-mark-set : (s : Session) (which : ℕ) (list : List ℕ) → auctioned s which list .returned .result .outcome ≡ 4 → auctioned s which list .returned .session .delayed ≡ true
-unfolding auctioned
-mark-set s which list = go (firstHit (auctionChecks s which (length list))) (auctionOf which)
-  where
-    sets : (a : Auction) (o : Outcome) → outcomeNumber o ≡ 4 → sessionAfter s a (part s a) o .delayed ≡ true
-    sets a (Traded price quantity) h = absurd (omega arith)
-    sets a NoTrade h = absurd (omega arith)
-    sets a NonOpening h = absurd (omega arith)
-    sets a (Delayed price quantity) h = refl
+-- outcome 4 is answered by an auction that is done
+module _ (s : Session) (which : ℕ) (list : List ℕ) where
+  abbrev asked : Auction
+  asked = auctionFrom which
 
-    go : (n : ℕ) (made : AuctionMade) → auctionAnswer n made s list .returned .result .outcome ≡ 4 → auctionAnswer n made s list .returned .session .delayed ≡ true
-    go (suc n) made h = absurd (omega arith)
-    go zero AuctionMade.Refused h = absurd (omega arith)
-    go zero (AuctionMade.Good a) h = sets a (outcomeOf s a) h
+  mark-set : auctioned s which list .returned .result .outcome ≡ 4 → auctioned s which list .returned .session .delayed ≡ true
+  unfolding auctioned
+  mark-set =
+      answered-cases (auctionChecks s which (length list)) (auctionRefused s list) (auctionDone s asked list)
+      (λ (l : AuctionLeaves). l .returned .result .outcome ≡ 4 → l .returned .session .delayed ≡ true) (λ n h e i. absurd (omega arith)) (λ e. sets (outcomeOf s asked))
+    where
+      sets : (o : Outcome) → outcomeNumber o ≡ 4 → sessionAfter s asked (part s asked) o .delayed ≡ true
+      sets (Traded price quantity) h = absurd (omega arith)
+      sets NoTrade h = absurd (omega arith)
+      sets NonOpening h = absurd (omega arith)
+      sets (Delayed price quantity) h = refl
 
-mark-spent : (s : Session) (which : ℕ) (list : List ℕ) → s .delayed ≡ true → auctioned s which list .returned .result .outcome ≢ 4
-unfolding auctioned
-mark-spent s which list e = go (firstHit (auctionChecks s which (length list))) (auctionOf which)
-  where
-    spent : (a : Auction) (d : Bool) (threshold reference price : ℕ) → d ≡ true → T (delayable a d && reaches threshold reference price) → ⊥
-    spent Opening true threshold reference price i h = h
-    spent Opening false threshold reference price i h = true≢false (sym i)
-    spent Closing d threshold reference price i h = h
-
-    go : (n : ℕ) (made : AuctionMade) → auctionAnswer n made s list .returned .result .outcome ≡ 4 → ⊥
-    go (suc n) made h = omega arith
-    go zero AuctionMade.Refused h = omega arith
-    go zero (AuctionMade.Good a) h = let (free, (p, found, delaying)) = decided s a .delayed .0 h in spent a (s .delayed) (s .parameters .threshold) (s .reference) p e delaying
+  mark-spent : s .delayed ≡ true → auctioned s which list .returned .result .outcome ≢ 4
+  unfolding auctioned
+  mark-spent marked =
+      answered-cases (auctionChecks s which (length list)) (auctionRefused s list) (auctionDone s asked list) (λ (l : AuctionLeaves). l .returned .result .outcome ≢ 4)
+      (λ n h e i. omega arith)
+      (λ e h. let (free, (p, found, delaying)) = decided s asked .delayed .0 h in spent asked (s .delayed) (s .parameters .threshold .0) (s .reference .0) p marked delaying)
+    where
+      spent : (a : Auction) (d : Bool) (threshold reference price : ℕ) → d ≡ true → T (delayable a d && reaches threshold reference price) → ⊥
+      spent Opening true threshold reference price i h = h
+      spent Opening false threshold reference price i h = true≢false (sym i)
+      spent Closing d threshold reference price i h = h
 
 -- B9, once: after a Delayed Opening no call in any sequence answers outcome 4 again.
 pub delayed-once : (s : Session) (which : ℕ) (list : List ℕ) → auctioned s which list .returned .result .outcome ≡ 4
@@ -307,10 +297,10 @@ delayed-once s which list h cs again lent =
 -- B7. An auction price, of outcome 1 or 4, is a price and a multiple of the step.
 pub answered-price-is-legal : (s : Session) → Sound s → (a : Auction) (list : List ℕ) → auctioned s (auctionNumber a) list .returned .answer ≡ 0
     → (auctioned s (auctionNumber a) list .returned .result .outcome ≡ 1) ⊎ (auctioned s (auctionNumber a) list .returned .result .outcome ≡ 4)
-    → T (isReference (s .parameters .step) (auctioned s (auctionNumber a) list .returned .result .price))
+    → T (isReference (s .parameters .step .0) (auctioned s (auctionNumber a) list .returned .result .price))
 answered-price-is-legal s sound a list accepted which =
-    price-is-legal a (s .parameters .step) (s .reference) (resting (s .book)) (sound .reference-holds (carried-out s a list accepted .running))
-    (λ o m. resting-sound (s .parameters .step) (s .given) (s .book) (sound .book-sound) o m .legal)
+    price-is-legal a (s .parameters .step .0) (s .reference .0) (resting (s .book)) (sound .reference-holds)
+    (λ o m. resting-sound (s .parameters .step .0) (s .given) (s .book) (sound .book-sound) o m .legal)
     (auctioned s (auctionNumber a) list .returned .result .price) (outcomes-in-order s a list accepted .priced which .0)
 
 -- C5. Non Opening exactly when no trade list at any price fills every unlimited order taking part ..
@@ -318,7 +308,7 @@ pub opening-prevented : (s : Session) → Sound s → (list : List ℕ) → auct
     → (auctioned s (auctionNumber Opening) list .returned .result .outcome ≡ 3) ↔ (Fillable (part s Opening) → ⊥)
 opening-prevented s sound list accepted =
     let number = outcomes-in-order s Opening list accepted .non-opening in
-    let exactly = non-opening-exactly (s .reference) (part s Opening) (takingPart-distinct Opening (resting (s .book)) (sound-ranged s sound .distinct)) in
+    let exactly = non-opening-exactly (s .reference .0) (part s Opening) (takingPart-distinct Opening (resting (s .book)) (sound-ranged s sound .distinct)) in
     ((λ e. exactly .0 (number .0 e)), (λ no. number .1 (exactly .1 no)))
 
 -- .. and a closing has outcome 1 or 2 only
@@ -327,7 +317,7 @@ pub closing-carried-out : (s : Session) (list : List ℕ) → auctioned s (aucti
 unfolding outcomeOf
 closing-carried-out s list accepted =
     rw (carried-out s Closing list accepted .leaves)
-    (one-of-two (outcomeOf s Closing) (every-closing-takes-place s (s .parameters .threshold) (s .reference) (resting (s .book))))
+    (one-of-two (outcomeOf s Closing) (every-closing-takes-place s (s .parameters .threshold .0) (s .reference .0) (resting (s .book))))
   where
     one-of-two : (o : Outcome) → T (takesPlace o) → (outcomeNumber o ≡ 1) ⊎ (outcomeNumber o ≡ 2)
     one-of-two (Traded price quantity) h = inl refl
@@ -349,10 +339,15 @@ pub record Foresees (s : Session) (which : ℕ) (list : List ℕ) : Type 0 where
 pub theoretical-foresees : (s : Session) (which : ℕ) (list : List ℕ) → tradeListLength ≤ length list → Foresees s which list
 unfolding theoretical auctioned
 theoretical-foresees s which list long =
-    let (answer, result) = go (firstHit (theoreticalChecks s which)) (auctionOf which) in
+    let (answer, result) = go (firstHit (theoreticalChecks s which)) in
     record { answer = rw (same-checks s which list long) answer; result = rw (same-checks s which list long) result }
   where
-    go : (n : ℕ) (made : AuctionMade) → (theoreticalAnswer n made s .answer ≡ auctionAnswer n made s list .returned .answer) × (theoreticalAnswer n made s .result ≡ auctionAnswer n made s list .returned .result)
-    go (suc n) made = (refl, refl)
-    go zero AuctionMade.Refused = (refl, refl)
-    go zero (AuctionMade.Good a) = (refl, refl)
+    abbrev foreseen : ℕ → Foreseen
+    foreseen n = answeredBy n theoreticalRefused (theoreticalDone s (auctionFrom which))
+
+    abbrev done : ℕ → AuctionLeaves
+    done n = answeredBy n (auctionRefused s list) (auctionDone s (auctionFrom which) list)
+
+    go : (n : ℕ) → (foreseen n .answer ≡ done n .returned .answer) × (foreseen n .result ≡ done n .returned .result)
+    go zero = (refl, refl)
+    go (suc n) = (refl, refl)

@@ -2,29 +2,29 @@
 -- side that take part, and doesn't depend on places. The call writes its numbers from the front of the lent list.
 use Prim.Native.Nat.{ℕ, _≤_}
 use mathlib.Core.Logic.{_⊎_, _↔_, _≢_}
-use mathlib.Core.Path.{_≡_, refl, _∙_}
+use mathlib.Core.Path.{_≡_, refl, sym, subst, _∙_}
 use mathlib.Core.List.{List, map}
 use native.Mathlib.Omega.{arith}
+use borrow.Author.Tests.{ltb-false}
 use lib.Dec.{T}
 use lib.ListN.{length, take, drop, length-map, length-append, length-drop}
 use lib.Seq.{take-at, drop-at}
 use Rattle.lists.specs.Sums.{_∈_, counted, counted-le, sum, sum-mono, sum-ones}
 use Rattle.lists.specs.Ranking.{Ranked}
 use Rattle.terms.specs.Bounds.{places}
-use Rattle.terms.specs.Orders.{Resting, auctionNumber, sideOf, sideNumber}
-use Rattle.terms.specs.declared.orders.{Side.Side, Side.the-variants.Buy, Side.the-variants.Sell, SideMade.SideMade, Auction.Auction}
+use Rattle.terms.specs.Orders.{Resting, auctionNumber, auctionFrom, sideNumber, sideFrom}
+use Rattle.terms.specs.declared.orders.{Side.Side, Side.the-variants.Buy, Side.the-variants.Sell, Auction.Auction}
 use Rattle.book.specs.Resting.{resting}
 use Rattle.queue.specs.Part.{takesPart, takingPart, takingPart-distinct, takingPart-elim, takingPart-intro, takingPart-length}
 use Rattle.queue.specs.Distinct.{Distinct}
 use Rattle.queue.specs.Rank.{ahead, onSide, ranked, ahead-irrefl, ahead-trans, ahead-total, ranked-in-order, ranked-elim, ranked-intro, ranked-sum, ranked-same}
 use Rattle.session.specs.declared.{Session.Session}
-use Rattle.refusals.specs.Checks.{firstHit}
-use Rattle.refusals.specs.Exactly.{none-hit}
+use Rattle.refusals.specs.Checks.{firstHit, answered-done}
+use Rattle.refusals.specs.Exactly.{clear}
 use Rattle.session.specs.Sound.{Sound}
 use Rattle.session.specs.Auctions.{part}
-use Rattle.session.specs.Queues.{QueueLeaves, rankedChecks, rankedNumbers, queueDone, queued}
-use Rattle.session.specs.QueueCalls.{queue-room}
-use Rattle.demands.specs.Answers.{ranked-exactly}
+use Rattle.session.specs.Queues.{QueueLeaves, rankedChecks, rankedNumbers, queueRefused, queueDone, queued}
+use Rattle.demands.specs.Answers.{ranked-answer}
 use Rattle.demands.specs.Traded.{sound-ranged}
 use Rattle.demands.specs.Outcomes.{auction-numbered}
 
@@ -72,7 +72,7 @@ pub record QueueListed (s : Session) (side : Side) (a : Auction) (list : List �
   pub further : drop (l .returned .count) (l .list) ≡ drop (l .returned .count) list
   pub as-long : length (l .list) ≡ length list
 
-side-numbered : (side : Side) → sideOf (sideNumber side) ≡ SideMade.Good side
+side-numbered : (side : Side) → sideFrom (sideNumber side) ≡ side
 side-numbered Buy = refl
 side-numbered Sell = refl
 
@@ -86,13 +86,19 @@ queue-few side book = omega (
   sum-ones book,
 )
 
+done-leaves : (s : Session) (side : Side) (a : Auction) (list : List ℕ) → 0 ≡ firstHit (rankedChecks s (sideNumber side) (auctionNumber a) (length list))
+    → queueDone list (rankedNumbers s side a) ≡ queued s (sideNumber side) (auctionNumber a) list
+unfolding queued
+done-leaves s side a list h =
+    rw (← side-numbered side, ← auction-numbered a)
+    (answered-done (rankedChecks s (sideNumber side) (auctionNumber a) (length list)) (queueRefused list) (queueDone list (rankedNumbers s (sideFrom (sideNumber side)) (auctionFrom (auctionNumber a)))) h)
+
 pub queue-listed : (s : Session) → Sound s → (side : Side) (a : Auction) (list : List ℕ) → queued s (sideNumber side) (auctionNumber a) list .returned .answer ≡ 0
     → QueueListed s side a list (queued s (sideNumber side) (auctionNumber a) list)
-unfolding queued
 queue-listed s sound side a list accepted =
     let checks = rankedChecks s (sideNumber side) (auctionNumber a) (length list) in
-    let h : firstHit checks ≡ 0 = none-hit checks tt .1 (ranked-exactly s (sideNumber side) (auctionNumber a) list .done .0 accepted) in
-    rw (h, side-numbered side, auction-numbered a) (done (queue-room s (sideNumber side) (auctionNumber a) list h))
+    let h : 0 ≡ firstHit checks = sym accepted ∙ ranked-answer s (sideNumber side) (auctionNumber a) list in
+    subst (QueueListed s side a list) (done-leaves s side a list h) (done (ltb-false (length list) places (clear checks tt h 12)))
   where
     numbers : List ℕ
     numbers = rankedNumbers s side a
@@ -103,7 +109,7 @@ queue-listed s sound side a list accepted =
     few : length numbers ≤ places
     few = omega (arith, as-many, queue-few side (part s a), takingPart-length a (resting (s .book)), sound-ranged s sound .few)
 
-    done : places ≤ length list → QueueListed s side a list (queueDone numbers list)
+    done : places ≤ length list → QueueListed s side a list (queueDone list numbers)
     done room = record {
       queue = ranked-queue side a (resting (s .book)) (sound-ranged s sound .distinct);
       best-first = take-at numbers (drop (length numbers) list) (length numbers) refl;

@@ -41,8 +41,8 @@ pub record Ranged (resting : List Resting) : Type 0 where
 -- every session that can be reached has such a book (A6)
 pub sound-ranged : (s : Session) → Sound s → Ranged (resting (s .book))
 sound-ranged s sound = record {
-  distinct = resting-distinct (s .parameters .step) (s .given) (s .book) (sound .book-sound);
-  live = resting-live (s .parameters .step) (s .given) (s .book) (sound .book-sound);
+  distinct = resting-distinct (s .parameters .step .0) (s .given) (s .book) (sound .book-sound);
+  live = resting-live (s .parameters .step .0) (s .given) (s .book) (sound .book-sound);
   few = resting-length (s .book) places;
 }
 
