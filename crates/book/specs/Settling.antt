@@ -1,10 +1,11 @@
 -- The book after an auction, from what rests at each place: a taken place where that is nothing is free, and any other keeps its order with that open.
-use Prim.Native.Nat.{ℕ, zero, suc, _+_, _/_, _%_, _≤_, _<_}
+use Prim.Native.Nat.{ℕ, zero, suc, _+_, _-_, _*_, _/_, _%_, _≤_, _<_}
 use mathlib.Core.Bool.{Bool, true, false, cond}
 use mathlib.Core.Option.{Option, none, some}
 use mathlib.Core.Logic.{_≢_}
 use mathlib.Core.Path.{_≡_, refl, sym, ap, _∙_}
 use mathlib.Core.List.{List}
+use native.Mathlib.Nat.{add-zero, add-suc}
 use native.Mathlib.Numerals.{add-one}
 use native.Mathlib.Omega.{arith}
 use borrow.Author.Tests.{ne-eqb}
@@ -15,6 +16,7 @@ use Rattle.terms.specs.Bounds.{places}
 use Rattle.terms.specs.Orders.{Resting}
 use Rattle.book.specs.declared.{Book.Book, Values.Values}
 use Rattle.places.specs.Places.{wordPlaces, isTaken, withoutBit, marked, unmarked}
+use Rattle.places.specs.Words.{bit-zero}
 use Rattle.book.specs.Columns.{valuesAt, valuesOf, orderFrom, orderAt, withLeft, emptyValues, written, stored, cleared}
 use Rattle.book.specs.Resting.{putBack, changedAt, changedTo, changed}
 use Rattle.book.specs.Sound.{SoundBook}
@@ -52,6 +54,18 @@ module _ (rests : List ℕ) (b c : Book) (n : ℕ) (so-far : c ≡ settledTo res
   pub settled-free : isTaken (c .taken) n ≡ false → c ≡ settledTo rests b (n + 1)
   unfolding settledTo
   settled-free free = rw (add-one, ← so-far, free)
+
+  -- .. or all places of its word are free from there on
+  settled-past : getD (c .taken) (n / wordPlaces) 0 ≡ 0 → (m : ℕ) → m ≤ wordPlaces - n % wordPlaces → c ≡ settledTo rests b (n + m)
+  unfolding settledTo
+  settled-past all zero h = rw add-zero so-far
+  settled-past all (suc m) h = rw (add-suc, ← settled-past all m (omega arith), free)
+    where
+      free : isTaken (c .taken) (n + m) ≡ false
+      free = let e : (n + m) / wordPlaces ≡ n / wordPlaces = omega arith in rw (e, all, bit-zero ((n + m) % wordPlaces))
+
+  pub settled-word : getD (c .taken) (n / wordPlaces) 0 ≡ 0 → c ≡ settledTo rests b ((n / wordPlaces + 1) * wordPlaces)
+  settled-word all = settled-past all (wordPlaces - n % wordPlaces) (omega arith) ∙ ap (settledTo rests b) (omega arith)
 
 -- what rests of an order with these values: nothing, or the order with that open
 abbrev pub restFrom : ℕ → Values → Option Resting

@@ -17,6 +17,11 @@ pub fn settled(mut b: Book, rests: &[u32; Place::COUNT]) -> Book
     let mut place: usize = 0;
     while place < Place::COUNT {
         let word = b.taken[place / WORD_PLACES];
+        // On to the next word where all places of this one are free.
+        if word == 0 {
+            place = (place / WORD_PLACES + 1) * WORD_PLACES;
+            continue;
+        }
         if bit_of(word, place % WORD_PLACES) == 1 {
             let rest = rests[place];
             if rest == 0 {

@@ -7,6 +7,5 @@ pub use words::bit_of;
 pub use words::count_taken;
 pub use words::lowest_free;
 pub use words::put_word;
-pub use words::unmarked;
 pub use words::with_bit;
 pub use words::without_bit;

@@ -3,9 +3,8 @@ use terms::Place;
 ghost use mathlib.Core.Path.{_≡_};
 ghost use Prim.Native.Nat.{_<_, _≤_};
 ghost use lib.ListN.{set};
-ghost use Rattle.places.specs.Places.{bit, total, lowestFree, countTaken, withBit, withoutBit, unmarked as Places·unmarked};
+ghost use Rattle.places.specs.Places.{bit, total, lowestFree, countTaken, withBit, withoutBit};
 ghost use Rattle.places.specs.Words.{LowClear};
-ghost use Rattle.terms.specs.Bounds.{places};
 
 // Eight words of 64 places each.
 pub const WORDS: usize = 8;
@@ -84,13 +83,4 @@ pub fn put_word(words: &mut [u64; WORDS], j: usize, word: u64)
     ensures { λ _. ⌜ now (words .exit) ≡ set (now (words .entry)) j word ⌝ }
 {
     words[j] = word;
-}
-
-pub fn unmarked(mut taken: [u64; WORDS], place: usize) -> [u64; WORDS]
-    requires { ⌜ place < places ⌝ }
-    ensures { λ r. ⌜ r ≡ Places·unmarked taken place ⌝ }
-{
-    let j = place / WORD_PLACES;
-    taken[j] = without_bit(taken[j], place % WORD_PLACES);
-    taken
 }

@@ -6,7 +6,7 @@ use mathlib.Core.Logic.{⊎-elim}
 use mathlib.Core.Path.{_≡_, sym, _∙_}
 use native.Mathlib.Omega.{arith}
 use lib.Seq.{set-getD}
-use Rattle.book.specs.Settling.{settledTo, settled-clear, settled-keep, settled-free}
+use Rattle.book.specs.Settling.{settledTo, settled-clear, settled-keep, settled-word, settled-free}
 use Rattle.book.proofs.settling.settled.Statement.{statement}
 use Rattle.book.proofs.settling.settled.Tie as tie
 
@@ -28,6 +28,20 @@ mul-word c = search needs
 
 element-copy-out-word : tie.Need-element-copy-out-word Inv-loop μ-loop
 element-copy-out-word c = search needs
+
+add-place : tie.Need-add-place Inv-loop μ-loop
+add-place c = search needs
+
+mul-place : tie.Need-mul-place Inv-loop μ-loop
+mul-place c = search needs
+
+loop-less : tie.Need-loop-less Inv-loop μ-loop
+loop-less c = search needs
+
+loop-again : tie.Need-loop-again Inv-loop μ-loop
+loop-again c =
+    let l = c .before .before .before in
+    (omega arith, settled-word _ _ (l .loop .b) _ (l .loop .inv .1) (c .if1 .taken))
 
 bit-of-requires : tie.Need-bit-of-requires Inv-loop μ-loop
 bit-of-requires c κs = search needs
@@ -80,23 +94,23 @@ mul-b-5 c = search needs
 element-write-b-7 : tie.Need-element-write-b-7 Inv-loop μ-loop
 element-write-b-7 c = search needs
 
-add-place : tie.Need-add-place Inv-loop μ-loop
-add-place c = search needs
+add-place-2 : tie.Need-add-place-2 Inv-loop μ-loop
+add-place-2 c = search needs
 
-loop-less : tie.Need-loop-less Inv-loop μ-loop
-loop-less c = search needs
+loop-less-2 : tie.Need-loop-less-2 Inv-loop μ-loop
+loop-less-2 c = search needs
 
-loop-again : tie.Need-loop-again Inv-loop μ-loop
-loop-again c =
-    let l = c .before .before .before .before in
+loop-again-2 : tie.Need-loop-again-2 Inv-loop μ-loop
+loop-again-2 c =
+    let l = c .before .before .before .before .before in
     let so-far = l .loop .inv .1 in
     let test = c .before .bit-of .ensures in
-    let step : c .if1 .b ≡ settledTo (l .before .before .args .rests .now) (l .before .before .args .t1) (l .loop .place + 1) = ⊎-elim
+    let step : c .if2 .b ≡ settledTo (l .before .before .args .rests .now) (l .before .before .args .t1) (l .loop .place + 1) = ⊎-elim
     (λ w. w .6 ∙ settled-clear _ _ (l .loop .b) _ so-far (rw (← test, w .0 .taken)) (w .2 .taken) _ (w .3 .ensures) _ (w .5 .ensures) (l .before .empty .result) (l .before .empty .ensures))
     (⊎-elim
     (λ w. w .3 ∙ sym (simp set-getD) ∙ settled-keep _ _ (l .loop .b) _ so-far (rw (← test, w .0 .taken)) (w .2 .left))
     (λ w. w .1 ∙ settled-free _ _ (l .loop .b) _ so-far (rw (← test, ne-eqb _ 1 (w .0 .left)))))
-    (c .if1 .came) in
+    (c .if2 .came) in
     (omega arith, step)
 
 returns : tie.Need-returns Inv-loop μ-loop
@@ -112,6 +126,10 @@ settled-spec =
     loop-holds
     mul-word
     element-copy-out-word
+    add-place
+    mul-place
+    loop-less
+    loop-again
     bit-of-requires
     mul-rest
     element-copy-out-rest
@@ -129,7 +147,7 @@ settled-spec =
     element-write-b-6
     mul-b-5
     element-write-b-7
-    add-place
-    loop-less
-    loop-again
+    add-place-2
+    loop-less-2
+    loop-again-2
     returns)
