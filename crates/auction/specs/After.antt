@@ -45,13 +45,13 @@ unfoldable pub restOf : Auction → List Trade → Resting → Option Resting
 restOf a trades o = cond (leaves a (remaining trades o)) none (some (remaining trades o))
 
 -- What rests of a sound order is sound, under the same number.
-module _ (step given : ℕ) (a : Auction) (trades : List Trade) where
+module _ (legal : ℕ → Bool) (given : ℕ) (a : Auction) (trades : List Trade) where
   -- what remains is above 0 and no more than before
-  pub rest-keeps : (o o' : Resting) → SoundOrder step given o → restOf a trades o ≡ some o' → SoundOrder step given o' × (o' .number ≡ o .number)
+  pub rest-keeps : (o o' : Resting) → SoundOrder legal given o → restOf a trades o ≡ some o' → SoundOrder legal given o' × (o' .number ≡ o .number)
   unfolding restOf
   rest-keeps o o' sound = go (eqb (remaining trades o .left) 0) refl (ends a (o .validity))
     where
-      good : eqb (remaining trades o .left) 0 ≡ false → SoundOrder step given (remaining trades o)
+      good : eqb (remaining trades o .left) 0 ≡ false → SoundOrder legal given (remaining trades o)
       good e = record {
         numbered = sound .numbered;
         given-already = sound .given-already;
@@ -60,12 +60,13 @@ module _ (step given : ℕ) (a : Auction) (trades : List Trade) where
             let most = and-both (leb minQuantity (o .left)) (leb (o .left) maxQuantity) (sound .open-quantity) .1 in
             let some-left = eqb-false (remaining trades o .left) 0 e in
             and-intro (leb minQuantity (remaining trades o .left)) (leb (remaining trades o .left) maxQuantity) (omega tests) (omega tests);
-        legal = sound .legal;
+        limit-in-range = sound .limit-in-range;
+        limit-legal = sound .limit-legal;
       }
 
-      go : (s : Bool) → eqb (remaining trades o .left) 0 ≡ s → (t : Bool) → cond (s || t) none (some (remaining trades o)) ≡ some o' → SoundOrder step given o' × (o' .number ≡ o .number)
+      go : (s : Bool) → eqb (remaining trades o .left) 0 ≡ s → (t : Bool) → cond (s || t) none (some (remaining trades o)) ≡ some o' → SoundOrder legal given o' × (o' .number ≡ o .number)
       go true e t f = absurd (Option·none-ne-some o' f)
       go false e true f = absurd (Option·none-ne-some o' f)
       go false e false f =
           let i = Option·some-injective (remaining trades o) o' f in
-          (subst (SoundOrder step given) i (good e), ap (λ (x : Resting). x .number) (sym i))
+          (subst (SoundOrder legal given) i (good e), ap (λ (x : Resting). x .number) (sym i))

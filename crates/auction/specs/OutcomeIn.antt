@@ -1,17 +1,16 @@
 -- The outcome of a sound book, told by the ranks of its queues and the sums along them.
 use Prim.Native.Nat.{ℕ, zero, suc, _+_, _≤_, _<_}
+use mathlib.Core.Bool.{Bool}
 use mathlib.Core.Option.{some}
 use mathlib.Core.Logic.{_⊎_, inl, inr}
 use mathlib.Core.Path.{_≡_, refl, sym, ap, _∙_}
 use mathlib.Core.List.{List, [], _∷_, map, map-map, map-congr-left, Memᴰ·map, Memᴰ·of-map, List·Memᴰ·head, List·Memᴰ·tail, List·Memᴰ·not-nil}
 use native.Mathlib.Omega.{arith}
-use lib.Dec.{T, leb, ltb}
+use lib.Dec.{T, ltb}
 use lib.ListN.{length, getD, take, length-map}
 use lib.Seq.{take-all}
-use Rattle.lists.specs.Tests.{tests, and-both}
 use Rattle.lists.specs.Sums.{_∈_}
-use Rattle.terms.specs.Bounds.{maxPrice, maxNumber}
-use Rattle.terms.specs.Kinds.{isPrice, isMultiple, isReference}
+use Rattle.terms.specs.Kinds.{isPrice}
 use Rattle.terms.specs.Orders.{Resting, limitNumber, limitFrom, atPrice}
 use Rattle.terms.specs.declared.orders.{Side.Side, Side.the-variants.Buy, Side.the-variants.Sell, Auction.Auction, Limit.Limit, Limit.the-variants.Unlimited, Limit.the-variants.At}
 use Rattle.book.specs.declared.Book.{Book}
@@ -22,10 +21,10 @@ use Rattle.queue.specs.Sides.{isUnlimited}
 use Rattle.queue.specs.Part.{takingPart, takingPart-elim, takingPart-distinct}
 use Rattle.queue.specs.Distinct.{Distinct}
 use Rattle.queue.specs.Rank.{onSide, ranked, ranked-elim, ranked-intro}
-use Rattle.queue.specs.Ranks.{limitRoom, placeOfRank, rankBound, along}
+use Rattle.queue.specs.Ranks.{limitRoom, numberRoom, placeOfRank, rankBound, along}
 use Rattle.fills.specs.Shares.{sumsFrom}
 use Rattle.queue.specs.Reach.{resting-sound, resting-distinct}
-use Rattle.queue.specs.Queue.{allows-below, unlimited-below, ranks-known, ranked-by-ranks}
+use Rattle.queue.specs.Queue.{price-room, allows-below, unlimited-below, ranks-known, ranked-by-ranks}
 use Rattle.price.specs.declared.search.{Found.Found}
 use Rattle.price.specs.Interest.{interest, demand, supply}
 use Rattle.price.specs.Candidates.{addLimit, limits, candidates, mostExecutable}
@@ -75,14 +74,7 @@ number-listed book {o} m p i = go (o .limit) refl i
     go Unlimited e i = inl (sym i)
     go (At l) e i = inr (limits-intro book m (e ∙ ap atPrice i))
 
--- a price has room in a rank
-price-room : (step p : ℕ) → T (isReference step p) → (0 < p) × (p < limitRoom)
-price-room step p h =
-    let price = and-both (isPrice p) (isMultiple step p) h .0 in
-    let (low, high) = and-both (leb 1 p) (leb p maxPrice) price in
-    (omega tests, omega tests)
-
-module _ (step given : ℕ) (b : Book) (sound : SoundBook step given b) (few : given ≤ maxNumber) (a : Auction) where
+module _ (legal : ℕ → Bool) (given : ℕ) (b : Book) (sound : SoundBook legal given b) (few : given < numberRoom) (a : Auction) where
   abbrev part : List Resting
   part = takingPart a (resting b)
 
@@ -90,7 +82,7 @@ module _ (step given : ℕ) (b : Book) (sound : SoundBook step given b) (few : g
   orderOf r = orderAt b (placeOfRank r)
 
   distinct : Distinct part
-  distinct = takingPart-distinct a (resting b) (resting-distinct step given b sound)
+  distinct = takingPart-distinct a (resting b) (resting-distinct legal given b sound)
 
   -- A side: what it offers at a price, and its limits under their numbers.
   module _ (s : Side) where
@@ -104,7 +96,7 @@ module _ (step given : ℕ) (b : Book) (sound : SoundBook step given b) (few : g
     entries = along (b .limit) (ranksOn b a s)
 
     queue : map orderOf (ranksOn b a s) ≡ ranked s part
-    queue = ranked-by-ranks step given b sound few s a
+    queue = ranked-by-ranks legal given b sound few s a
 
     sums-whole : take (length (ranksOn b a s) + 1) sums ≡ sums
     sums-whole =
@@ -114,16 +106,16 @@ module _ (step given : ℕ) (b : Book) (sound : SoundBook step given b) (few : g
     unlimited-on : unlimitedIn s (b .left) (ranksOn b a s) ≡ unlimited s part
     unlimited-on =
         sum-below-front (λ o. isUnlimited (o .limit)) (rankBound s 0) orderOf (ranksOn b a s) sums sums-whole
-        (λ r m. let k = ranks-known step given b sound few s a r m in
-        ap (λ (x : ℕ). ltb x (rankBound s 0)) (k .is) ∙ unlimited-below step given b sound few s (placeOfRank r) (k .here) (k .taken))
+        (λ r m. let k = ranks-known legal given b sound few s a r m in
+        ap (λ (x : ℕ). ltb x (rankBound s 0)) (k .is) ∙ unlimited-below legal given b sound few s (placeOfRank r) (k .here) (k .taken))
         (rw queue (unlimited-front s part distinct))
         ∙ rw queue (queue-left s (λ o. isUnlimited (o .limit)) part)
 
     offered-on : (p : ℕ) → (0 < p) × (p < limitRoom) → offers p ≡ interest s p part
     offered-on p (low, high) =
         offered-is-interest s p part distinct orderOf (ranksOn b a s) sums queue sums-whole
-        (λ r m. let k = ranks-known step given b sound few s a r m in
-        ap (λ (x : ℕ). ltb x (rankBound s p)) (k .is) ∙ allows-below step given b sound few s (placeOfRank r) (k .here) (k .taken) p low high)
+        (λ r m. let k = ranks-known legal given b sound few s a r m in
+        ap (λ (x : ℕ). ltb x (rankBound s p)) (k .is) ∙ allows-below legal given b sound few s (placeOfRank r) (k .here) (k .taken) p low high)
 
     entries-on : entries ≡ map (λ o. limitNumber (o .limit)) (ranked s part)
     entries-on =
@@ -151,15 +143,15 @@ module _ (step given : ℕ) (b : Book) (sound : SoundBook step given b) (few : g
   limit-room : (p : ℕ) → p ∈ limits part → (0 < p) × (p < limitRoom)
   limit-room p m =
       let (o, n, e) = limits-elim part m in
-      price-room step p (rw e at (resting-sound step given b sound o (takingPart-elim a (resting b) n .0) .legal))
+      price-room p (rw e at (resting-sound legal given b sound o (takingPart-elim a (resting b) n .0) .limit-in-range))
 
   no-zero : 0 ∈ limits part → ⊥
   no-zero m = let (low, high) = limit-room 0 m in omega arith
 
   -- With a reference price every candidate is a price, and the search finds what the definition says.
-  module _ (reference : ℕ) (legal : T (isReference step reference)) where
+  module _ (reference : ℕ) (is-price : T (isPrice reference)) where
     candidate-room : (p : ℕ) → p ∈ candidates reference part → (0 < p) × (p < limitRoom)
-    candidate-room p (List·Memᴰ·head e) = rw e (price-room step reference legal)
+    candidate-room p (List·Memᴰ·head e) = rw e (price-room reference is-price)
     candidate-room p (List·Memᴰ·tail m) = limit-room p m
 
     offered-both : (p : ℕ) → p ∈ candidates reference part → (offers Buy p ≡ demand part p) × (offers Sell p ≡ supply part p)
@@ -175,9 +167,9 @@ module _ (step given : ℕ) (b : Book) (sound : SoundBook step given b) (few : g
     found-price = searched-price reference part (offers Buy) (offers Sell) (entries Buy) (entries Sell) offered-both (entries-known Buy) (entries-known Sell) all-entered no-zero
 
   -- The outcome is that of the definition.
-  pub outcome-in : (held : Held) (threshold reference : ℕ) → T (isReference step reference)
+  pub outcome-in : (held : Held) (threshold reference : ℕ) → T (isPrice reference)
       → outcomeIn held threshold reference (b .limit) (b .left) (ranksOn b a Buy) (ranksOn b a Sell) ≡ outcome held threshold reference (takingPart a (resting b))
   unfolding outcomeIn
-  outcome-in held threshold reference legal =
-      decided held threshold reference part (found reference legal) (unlimitedIn Buy (b .left) (ranksOn b a Buy)) (unlimitedIn Sell (b .left) (ranksOn b a Sell))
-      (found-most reference legal) (found-price reference legal) (unlimited-on Buy) (unlimited-on Sell)
+  outcome-in held threshold reference is-price =
+      decided held threshold reference part (found reference is-price) (unlimitedIn Buy (b .left) (ranksOn b a Buy)) (unlimitedIn Sell (b .left) (ranksOn b a Sell))
+      (found-most reference is-price) (found-price reference is-price) (unlimited-on Buy) (unlimited-on Sell)

@@ -1,6 +1,6 @@
 -- The trades of a sound book and what rests at each place, told by the ranks of its queues.
 use Prim.Native.Nat.{ℕ, zero, suc, _+_, _-_, _≤_, _<_}
-use mathlib.Core.Bool.{true}
+use mathlib.Core.Bool.{Bool, true}
 use mathlib.Core.Logic.{_≢_}
 use mathlib.Core.Path.{_≡_, refl, sym, ap, _∙_}
 use mathlib.Core.List.{List, [], _∷_, _++_, map, map-map}
@@ -10,7 +10,7 @@ use lib.Dec.{eqb, eqb→eq, eqb-refl}
 use lib.ListN.{length, getD, take, drop, length-map, take-append-drop}
 use Rattle.lists.specs.Tests.{same-test}
 use Rattle.lists.specs.Sums.{_∈_, counted, sum-none}
-use Rattle.terms.specs.Bounds.{places, maxNumber}
+use Rattle.terms.specs.Bounds.{places}
 use Rattle.terms.specs.Orders.{Resting}
 use Rattle.terms.specs.declared.orders.{Side.Side, Side.the-variants.Buy, Side.the-variants.Sell, Auction.Auction}
 use Rattle.book.specs.declared.Book.{Book}
@@ -24,7 +24,7 @@ use Rattle.queue.specs.Part.{takingPart, takingPart-elim, takingPart-distinct}
 use Rattle.queue.specs.Sides.{sameSide-eq}
 use Rattle.queue.specs.Distinct.{Distinct}
 use Rattle.queue.specs.Rank.{ranked, ranked-elim}
-use Rattle.queue.specs.Ranks.{placeOfRank, along}
+use Rattle.queue.specs.Ranks.{numberRoom, placeOfRank, along}
 use Rattle.queue.specs.Reach.{resting-distinct}
 use Rattle.queue.specs.Queue.{ranks-known, ranked-by-ranks}
 use Rattle.fills.specs.Fill.{Fill, fill, filledBy, hasNumber, fill-all}
@@ -46,7 +46,7 @@ front-map f (suc n) (x ∷ xs) = rw (front-map f n xs)
 apart-sides : Sell ≡ Buy → ⊥
 apart-sides e = let z : _≡_ {A = ℕ} 0 1 = cc in omega arith
 
-module _ (step given : ℕ) (b : Book) (sound : SoundBook step given b) (few : given ≤ maxNumber) (a : Auction) where
+module _ (legal : ℕ → Bool) (given : ℕ) (b : Book) (sound : SoundBook legal given b) (few : given < numberRoom) (a : Auction) where
   abbrev part : List Resting
   part = takingPart a (resting b)
 
@@ -55,7 +55,7 @@ module _ (step given : ℕ) (b : Book) (sound : SoundBook step given b) (few : g
 
   -- The columns along a side's ranks are the columns of its ranked queue.
   along-on : (s : Side) (w : Resting → ℕ) → map (λ r. w (orderOf r)) (ranksOn b a s) ≡ map w (ranked s part)
-  along-on s w = sym (map-map w orderOf (ranksOn b a s)) ∙ ap (map w) (ranked-by-ranks step given b sound few s a)
+  along-on s w = sym (map-map w orderOf (ranksOn b a s)) ∙ ap (map w) (ranked-by-ranks legal given b sound few s a)
 
   shares-on : (quantity : ℕ) (s : Side) → sharesIn quantity (b .left) (ranksOn b a s) ≡ map (λ x. x .quantity) (fills s quantity part)
   unfolding fills
@@ -90,7 +90,7 @@ module _ (step given : ℕ) (b : Book) (sound : SoundBook step given b) (few : g
   module _ (p : ℕ) (here : p < places) (taken : isTaken (b .taken) p ≡ true) where
     same-order : (s : Side) (r : ℕ) → r ∈ ranksOn b a s → eqb (placeOfRank r) p ≡ eqb (orderOf r .number) (orderAt b p .number)
     same-order s r m =
-        let k = ranks-known step given b sound few s a r m in
+        let k = ranks-known legal given b sound few s a r m in
         same-test (eqb (placeOfRank r) p) (eqb (orderOf r .number) (orderAt b p .number))
         (λ t. let e = eqb→eq (placeOfRank r) p t in rw e (eqb-refl (orderAt b p .number)))
         (λ t. let e = sound .once (placeOfRank r) p (k .here) here (k .taken) taken (eqb→eq (orderOf r .number) (orderAt b p .number) t) in rw e (eqb-refl p))
@@ -99,7 +99,7 @@ module _ (step given : ℕ) (b : Book) (sound : SoundBook step given b) (few : g
     unfolding fills
     shared-on quantity s =
         shared-at-fill orderOf (ranksOn b a s) p (orderAt b p .number) quantity (same-order s)
-        ∙ ap (λ (os : List Resting). filledBy (hasNumber (orderAt b p .number)) (fill quantity os)) (ranked-by-ranks step given b sound few s a)
+        ∙ ap (λ (os : List Resting). filledBy (hasNumber (orderAt b p .number)) (fill quantity os)) (ranked-by-ranks legal given b sound few s a)
 
     -- on the other side nothing is filled under its number
     other-fill : (quantity : ℕ) (s : Side) → s ≢ orderAt b p .side → filledBy (hasNumber (orderAt b p .number)) (fills s quantity part) ≡ 0
@@ -117,7 +117,7 @@ module _ (step given : ℕ) (b : Book) (sound : SoundBook step given b) (few : g
 
     module _ (price quantity : ℕ) (enough : (s : Side) → quantity ≤ interest s price part) where
       distinct : Distinct part
-      distinct = takingPart-distinct a (resting b) (resting-distinct step given b sound)
+      distinct = takingPart-distinct a (resting b) (resting-distinct legal given b sound)
 
       -- what the trades leave at the place
       left-at : getD (leftIn quantity (b .left) (ranksOn b a Buy) (ranksOn b a Sell)) p 0 ≡ orderAt b p .left - traded (orderAt b p .side) (orderAt b p .number) (tradesOf quantity part)
@@ -155,4 +155,4 @@ module _ (step given : ℕ) (b : Book) (sound : SoundBook step given b) (few : g
   pub rests-in : (price quantity : ℕ) → ((s : Side) → quantity ≤ interest s price part)
       → settled (restsIn a quantity b (ranksOn b a Buy) (ranksOn b a Sell)) b ≡ changed (restOf a (tradesOf quantity part)) b
   rests-in price quantity enough =
-      settled-changed step given (restOf a (tradesOf quantity part)) (restsIn a quantity b (ranksOn b a Buy) (ranksOn b a Sell)) b sound (λ p here taken. rest-at p here taken price quantity enough)
+      settled-changed legal given (restOf a (tradesOf quantity part)) (restsIn a quantity b (ranksOn b a Buy) (ranksOn b a Sell)) b sound (λ p here taken. rest-at p here taken price quantity enough)

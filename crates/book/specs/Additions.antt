@@ -1,6 +1,6 @@
 -- Storing adds an order to those that rest, and clearing removes one.
 use Prim.Native.Nat.{ℕ, _<_}
-use mathlib.Core.Bool.{true, false, true≢false}
+use mathlib.Core.Bool.{Bool, true, false, true≢false}
 use mathlib.Core.Logic.{_⊎_, inl, inr, ⊎-elim, _↔_, _≢_}
 use mathlib.Core.Path.{_≡_, sym, ap, subst, _∙_}
 use lib.Dec.{T}
@@ -45,9 +45,9 @@ stored-resting b sized place here free o w x = (to, ⊎-elim back new)
         (resting-intro (stored b place o) places place here (stored-taken b sized place here o))
 
 -- A taken place that is cleared: those that rested, but for the one with its number.
-pub cleared-resting : (step given : ℕ) (b : Book) → SoundBook step given b → (place : ℕ) → place < places → isTaken (b .taken) place ≡ true
+pub cleared-resting : (legal : ℕ → Bool) (given : ℕ) (b : Book) → SoundBook legal given b → (place : ℕ) → place < places → isTaken (b .taken) place ≡ true
     → (x : Resting) → (x ∈ resting (cleared b place)) ↔ ((x ∈ resting b) × (x .number ≢ orderAt b place .number))
-cleared-resting step given b sound place here taken x = (to, back)
+cleared-resting legal given b sound place here taken x = (to, back)
   where
     to : x ∈ resting (cleared b place) → (x ∈ resting b) × (x .number ≢ orderAt b place .number)
     to m =

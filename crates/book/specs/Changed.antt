@@ -14,7 +14,7 @@ use Rattle.book.specs.Columns.{valuesAt, valuesOf, orderFrom, orderAt, e
 use Rattle.book.specs.Changes.{Sized, SameAt, stored-taken, stored-raw, stored-order, stored-elsewhere, stored-sized, cleared-free, cleared-raw, cleared-elsewhere, cleared-sized}
 use Rattle.book.specs.Resting.{resting, putBack, changedAt, changedTo, changed}
 use Rattle.book.specs.Rests.{resting-elim, resting-intro}
-use Rattle.book.specs.Sound.{SoundOrder, SoundBook, legal-limit, same-or-not, changed-sound, cleared-sound}
+use Rattle.book.specs.Sound.{SoundOrder, SoundBook, same-or-not, changed-sound, cleared-sound}
 
 -- what stands at a place afterwards
 pub record AfterAt (change : Resting → Option Resting) (b c : Book) (p : ℕ) : Type 0 where
@@ -73,20 +73,20 @@ module _ (change : Resting → Option Resting) where
   }
 
 -- What is left of a sound order is sound, under the same number.
-module _ (step given : ℕ) (change : Resting → Option Resting)
-    (keeps : (o o' : Resting) → SoundOrder step given o → change o ≡ some o' → SoundOrder step given o' × (o' .number ≡ o .number)) where
+module _ (legal : ℕ → Bool) (given : ℕ) (change : Resting → Option Resting)
+    (keeps : (o o' : Resting) → SoundOrder legal given o → change o ≡ some o' → SoundOrder legal given o' × (o' .number ≡ o .number)) where
   -- .. one place
-  module _ (b : Book) (sound : SoundBook step given b) (place : ℕ) (here : place < places) where
+  module _ (b : Book) (sound : SoundBook legal given b) (place : ℕ) (here : place < places) where
     left-order : (o : Resting) → isTaken (b .taken) place ≡ true → change (orderAt b place) ≡ some o → orderAt (stored b place o) place ≡ o
     left-order o e f =
         let (good, same) = keeps (orderAt b place) o (sound .each place here .rests e) f in
-        stored-order b (sound .sized) place here o (legal-limit step (o .limit) (good .legal))
+        stored-order b (sound .sized) place here o (good .limit-in-range)
 
-    left-sound : (o : Resting) → isTaken (b .taken) place ≡ true → change (orderAt b place) ≡ some o → SoundBook step given (stored b place o)
+    left-sound : (o : Resting) → isTaken (b .taken) place ≡ true → change (orderAt b place) ≡ some o → SoundBook legal given (stored b place o)
     left-sound o e f =
         let (good, same) = keeps (orderAt b place) o (sound .each place here .rests e) f in
         let back = left-order o e f in
-        changed-sound step given given (omega arith) b (stored b place o) sound place (stored-sized b (sound .sized) place here o) (stored-elsewhere b (sound .sized) place here o)
+        changed-sound legal given given (omega arith) b (stored b place o) sound place (stored-sized b (sound .sized) place here o) (stored-elsewhere b (sound .sized) place here o)
         (record {
           free = λ g. absurd (true≢false (sym (stored-taken b (sound .sized) place here o) ∙ g));
           coded = λ g. ap valuesOf back ∙ sym (stored-raw b (sound .sized) place here o);
@@ -94,8 +94,8 @@ module _ (step given : ℕ) (change : Resting → Option Resting)
         })
         (λ p n h g k i. n (sound .once p place h here g e (i ∙ ap (λ (x : Resting). x .number) back ∙ same)))
 
-    step-sound : SoundBook step given (changedAt change b place)
-    step-sound = changed-cases change (SoundBook step given) b place (λ e. sound) (λ e f. cleared-sound step given b sound place here) left-sound
+    step-sound : SoundBook legal given (changedAt change b place)
+    step-sound = changed-cases change (SoundBook legal given) b place (λ e. sound) (λ e f. cleared-sound legal given b sound place here) left-sound
 
     step-after : AfterAt change b (changedAt change b place) place
     step-after =
@@ -116,13 +116,13 @@ module _ (step given : ℕ) (change : Resting → Option Resting)
           left = λ x g h. (stored-taken b (sound .sized) place here o, left-order o e f ∙ Option·some-injective o x (sym f ∙ h));
         })
 
-  module _ (b : Book) (sound : SoundBook step given b) where
-    to-sound : (n : ℕ) → n ≤ places → SoundBook step given (changedTo change b n)
+  module _ (b : Book) (sound : SoundBook legal given b) where
+    to-sound : (n : ℕ) → n ≤ places → SoundBook legal given (changedTo change b n)
     unfolding changedTo
     to-sound zero h = sound
     to-sound (suc n) h = step-sound (changedTo change b n) (to-sound n (omega arith)) n (omega arith)
 
-    pub changed-book-sound : SoundBook step given (changed change b)
+    pub changed-book-sound : SoundBook legal given (changed change b)
     changed-book-sound = to-sound places (omega arith)
 
     to-after : (n p : ℕ) → p < n → n ≤ places → AfterAt change b (changedTo change b n) p

@@ -13,14 +13,14 @@ use Rattle.terms.specs.Kinds.{isPrice}
 use Rattle.terms.specs.Orders.{Resting, atPrice, sideFrom, validityFrom, sideNumber, validityNumber, limitNumber, limitFrom, isLimit}
 use Rattle.terms.specs.declared.orders.{Side.Side, Side.the-variants.Buy, Side.the-variants.Sell, Validity.Validity, Validity.the-variants.AtOpening, Validity.the-variants.AtClose, Validity.the-variants.Day, Validity.the-variants.LaterDay, Limit.Limit, Limit.the-variants.Unlimited, Limit.the-variants.At}
 use Rattle.book.specs.declared.Book.{Book}
-use Rattle.places.specs.Places.{isTaken, marked, unmarked}
+use Rattle.places.specs.Places.{wordCount, isTaken, marked, unmarked}
 use Rattle.places.specs.Words.{marked-taken, marked-elsewhere, unmarked-free, unmarked-elsewhere, marked-length, unmarked-length}
 use Rattle.book.specs.Columns.{valuesAt, valuesOf, orderFrom, orderAt, emptyValues, written, stored, cleared}
 use Rattle.book.specs.declared.Values.{Values}
 
 -- eight words, and columns of 512
 pub record Sized (b : Book) : Type 0 where
-  pub taken : length (b .taken) ≡ 8
+  pub taken : length (b .taken) ≡ wordCount
   pub number : length (b .number) ≡ places
   pub member : length (b .member) ≡ places
   pub side : length (b .side) ≡ places
@@ -67,7 +67,7 @@ module _ (b : Book) (words : List ℕ) (place : ℕ) (r : Values) where
       cell : (column : List ℕ) (x : ℕ) → length column ≡ places → getD (set column place x) place 0 ≡ x
       cell column x e = getD-set-same column place x 0 (omega arith)
 
-  written-sized : Sized b → length words ≡ 8 → Sized (written b words place r)
+  written-sized : Sized b → length words ≡ wordCount → Sized (written b words place r)
   written-sized sized e = record {
     taken = e;
     number = rw length-set (sized .number);

@@ -5,7 +5,7 @@ use lib.ListN.{getD, set, replicate}
 use Rattle.terms.specs.Bounds.{places}
 use Rattle.terms.specs.Orders.{Resting, sideNumber, sideFrom, validityNumber, validityFrom, limitNumber, limitFrom}
 use Rattle.book.specs.declared.{Book.Book, Values.Values}
-use Rattle.places.specs.Places.{marked, unmarked}
+use Rattle.places.specs.Places.{wordCount, marked, unmarked}
 
 -- what the columns hold at a place
 abbrev pub valuesAt : Book → ℕ → Values
@@ -54,7 +54,7 @@ emptyValues = record { number = 0; member = 0; side = 0; validity = 0; left = 0;
 -- every place free, and the empty value 0 in every column
 abbrev pub emptyBook : Book
 emptyBook = record {
-  taken = replicate 8 0;
+  taken = replicate wordCount 0;
   number = replicate places 0;
   member = replicate places 0;
   side = replicate places 0;

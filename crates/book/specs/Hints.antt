@@ -20,8 +20,8 @@ pub record Numbered (taken numbers : List ℕ) (given : ℕ) : Type 0 where
   pub once : (p q : ℕ) → p < places → q < places → isTaken taken p ≡ true → isTaken taken q ≡ true → getD numbers p 0 ≡ getD numbers q 0 → p ≡ q
   pub given-already : (p : ℕ) → p < places → isTaken taken p ≡ true → getD numbers p 0 ≤ given
 
-pub sound-numbered : (step given : ℕ) (b : Book) → SoundBook step given b → Numbered (b .taken) (b .number) given
-sound-numbered step given b sound = record {
+pub sound-numbered : (legal : ℕ → Bool) (given : ℕ) (b : Book) → SoundBook legal given b → Numbered (b .taken) (b .number) given
+sound-numbered legal given b sound = record {
   once = sound .once;
   given-already = λ p h e. sound .each p h .rests e .given-already;
 }

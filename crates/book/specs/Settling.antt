@@ -100,7 +100,7 @@ settled-at change rests c place known = go (isTaken (c .taken) place) refl
     go false e = refl
 
 -- A book is settled as it is changed, where what rests is what the change leaves of each order.
-module _ (step given : ℕ) (change : Resting → Option Resting) (rests : List ℕ) (b : Book) (sound : SoundBook step given b)
+module _ (legal : ℕ → Bool) (given : ℕ) (change : Resting → Option Resting) (rests : List ℕ) (b : Book) (sound : SoundBook legal given b)
     (left : (p : ℕ) → p < places → isTaken (b .taken) p ≡ true → change (orderAt b p) ≡ restFrom (getD rests p 0) (valuesAt b p)) where
   settled-changed-to : (n : ℕ) → n ≤ places → settledTo rests b n ≡ changedTo change b n
   unfolding settledTo changedTo

@@ -7,46 +7,41 @@ use native.Mathlib.Omega.{arith}
 use borrow.Author.Tests.{eqb-true, eqb-false}
 use lib.Dec.{T, eqb}
 use lib.ListN.{length-replicate, getD-replicate}
-use Rattle.lists.specs.Tests.{and-both}
 use Rattle.terms.specs.Bounds.{places}
-use Rattle.terms.specs.Kinds.{isPrice, isMultiple, isMember, isQuantity}
+use Rattle.terms.specs.Kinds.{isMember, isQuantity}
 use Rattle.terms.specs.Orders.{Resting, isLimit, isLegal}
-use Rattle.terms.specs.declared.orders.{Limit.Limit, Limit.the-variants.Unlimited, Limit.the-variants.At}
 use Rattle.book.specs.declared.Book.{Book}
-use Rattle.places.specs.Places.{isTaken}
+use Rattle.places.specs.Places.{wordCount, isTaken}
 use Rattle.places.specs.Words.{zeros-free}
 use Rattle.book.specs.Columns.{valuesAt, valuesOf, orderFrom, orderAt, emptyValues, emptyBook, stored, cleared}
 use Rattle.book.specs.Changes.{Sized, SameAt, stored-taken, stored-raw, stored-order, stored-elsewhere, stored-sized, cleared-free, cleared-raw, cleared-elsewhere, cleared-sized}
 
--- an order that may rest: its number among those given, its other fields in range, its limit a multiple of the step
-pub record SoundOrder (step given : ℕ) (o : Resting) : Type 0 where
+-- an order that may rest: its number among those given, its other fields in range, its limit a legal price
+pub record SoundOrder (legal : ℕ → Bool) (given : ℕ) (o : Resting) : Type 0 where
   pub numbered : 0 < o .number
   pub given-already : o .number ≤ given
   pub of-member : T (isMember (o .member))
   pub open-quantity : T (isQuantity (o .left))
-  pub legal : T (isLegal step (o .limit))
+  pub limit-in-range : T (isLimit (o .limit))
+  pub limit-legal : T (isLegal legal (o .limit))
 
 -- a free place holds the empty values; a taken one holds an order that may rest, in the numbers of 01
-pub record SoundPlace (step given : ℕ) (b : Book) (p : ℕ) : Type 0 where
+pub record SoundPlace (legal : ℕ → Bool) (given : ℕ) (b : Book) (p : ℕ) : Type 0 where
   pub free : isTaken (b .taken) p ≡ false → valuesAt b p ≡ emptyValues
   pub coded : isTaken (b .taken) p ≡ true → valuesOf (orderAt b p) ≡ valuesAt b p
-  pub rests : isTaken (b .taken) p ≡ true → SoundOrder step given (orderAt b p)
+  pub rests : isTaken (b .taken) p ≡ true → SoundOrder legal given (orderAt b p)
 
-pub record SoundBook (step given : ℕ) (b : Book) : Type 0 where
+pub record SoundBook (legal : ℕ → Bool) (given : ℕ) (b : Book) : Type 0 where
   pub sized : Sized b
-  pub each : (p : ℕ) → p < places → SoundPlace step given b p
+  pub each : (p : ℕ) → p < places → SoundPlace legal given b p
   -- no number at two places
   pub once : (p q : ℕ) → p < places → q < places → isTaken (b .taken) p ≡ true → isTaken (b .taken) q ≡ true → orderAt b p .number ≡ orderAt b q .number → p ≡ q
 
-pub legal-limit : (step : ℕ) (w : Limit) → T (isLegal step w) → T (isLimit w)
-legal-limit step Unlimited h = tt
-legal-limit step (At p) h = and-both (isPrice (p .0)) (isMultiple step (p .0)) h .0
-
 -- every place of the empty book is free
-pub empty-sound : (step given : ℕ) → SoundBook step given emptyBook
-empty-sound step given = record {
+pub empty-sound : (legal : ℕ → Bool) (given : ℕ) → SoundBook legal given emptyBook
+empty-sound legal given = record {
   sized = record {
-    taken = length-replicate {A = ℕ} 8 0;
+    taken = length-replicate {A = ℕ} wordCount 0;
     number = length-replicate {A = ℕ} places 0;
     member = length-replicate {A = ℕ} places 0;
     side = length-replicate {A = ℕ} places 0;
@@ -59,7 +54,7 @@ empty-sound step given = record {
 }
   where
     never : (p : ℕ) → isTaken (emptyBook .taken) p ≡ true → ⊥
-    never p e = true≢false (sym e ∙ zeros-free 8 p)
+    never p e = true≢false (sym e ∙ zeros-free wordCount p)
 
 -- one place or another
 pub same-or-not : (p q : ℕ) → (p ≡ q) ⊎ (p ≢ q)
@@ -70,13 +65,19 @@ same-or-not p q = go (eqb p q) refl
     go false e = inr (eqb-false p q e)
 
 -- later numbers don't spoil an order
-later-order : (step given later : ℕ) → given ≤ later → (o : Resting) → SoundOrder step given o → SoundOrder step later o
-later-order step given later wait o s =
-    record { numbered = s .numbered; given-already = omega (arith, s .given-already); of-member = s .of-member; open-quantity = s .open-quantity; legal = s .legal }
+later-order : (legal : ℕ → Bool) (given later : ℕ) → given ≤ later → (o : Resting) → SoundOrder legal given o → SoundOrder legal later o
+later-order legal given later wait o s = record {
+  numbered = s .numbered;
+  given-already = omega (arith, s .given-already);
+  of-member = s .of-member;
+  open-quantity = s .open-quantity;
+  limit-in-range = s .limit-in-range;
+  limit-legal = s .limit-legal;
+}
 
 -- A sound book that is changed at one place is sound, where that place is, and where its number is at no other.
-module _ (step given later : ℕ) (wait : given ≤ later) (b c : Book) (sound : SoundBook step given b) (place : ℕ) (sized : Sized c) (same : (p : ℕ) → p ≢ place → SameAt c b p)
-    (there : SoundPlace step later c place)
+module _ (legal : ℕ → Bool) (given later : ℕ) (wait : given ≤ later) (b c : Book) (sound : SoundBook legal given b) (place : ℕ) (sized : Sized c) (same : (p : ℕ) → p ≢ place → SameAt c b p)
+    (there : SoundPlace legal later c place)
     (new : (p : ℕ) → p ≢ place → p < places → isTaken (b .taken) p ≡ true → isTaken (c .taken) place ≡ true → orderAt b p .number ≢ orderAt c place .number) where
   -- what is known of another place
   taken-before : (p : ℕ) → p ≢ place → isTaken (c .taken) p ≡ true → isTaken (b .taken) p ≡ true
@@ -85,18 +86,18 @@ module _ (step given later : ℕ) (wait : given ≤ later) (b c : Book) (sound :
   order-before : (p : ℕ) → p ≢ place → orderAt c p ≡ orderAt b p
   order-before p n = ap orderFrom (same p n .1)
 
-  elsewhere : (p : ℕ) → p < places → p ≢ place → SoundPlace step later c p
+  elsewhere : (p : ℕ) → p < places → p ≢ place → SoundPlace legal later c p
   elsewhere p h n = record {
     free = λ e. same p n .1 ∙ sound .each p h .free (sym (same p n .0) ∙ e);
     coded = λ e. ap valuesOf (order-before p n) ∙ sound .each p h .coded (taken-before p n e) ∙ sym (same p n .1);
-    rests = λ e. rw (order-before p n) (later-order step given later wait (orderAt b p) (sound .each p h .rests (taken-before p n e)));
+    rests = λ e. rw (order-before p n) (later-order legal given later wait (orderAt b p) (sound .each p h .rests (taken-before p n e)));
   }
 
   -- two places, one of which is the changed one
   apart-from : (p : ℕ) → p ≢ place → p < places → isTaken (c .taken) p ≡ true → isTaken (c .taken) place ≡ true → orderAt c p .number ≢ orderAt c place .number
   apart-from p n h e f i = new p n h (taken-before p n e) f (ap (λ (o : Resting). o .number) (sym (order-before p n)) ∙ i)
 
-  pub changed-sound : SoundBook step later c
+  pub changed-sound : SoundBook legal later c
   changed-sound = record {
     sized = sized;
     each = λ p h. ⊎-elim (λ i. rw i there) (λ n. elsewhere p h n) (same-or-not p place);
@@ -114,10 +115,10 @@ module _ (step given later : ℕ) (wait : given ≤ later) (b c : Book) (sound :
   }
 
 -- A free place takes an order with a number above all that were given.
-pub stored-sound : (step given : ℕ) (b : Book) → SoundBook step given b → (place : ℕ) → place < places → (o : Resting) → given < o .number → SoundOrder step (o .number) o
-    → SoundBook step (o .number) (stored b place o)
-stored-sound step given b sound place here o above good =
-    changed-sound step given (o .number) (omega arith) b (stored b place o) sound place (stored-sized b (sound .sized) place here o) (stored-elsewhere b (sound .sized) place here o)
+pub stored-sound : (legal : ℕ → Bool) (given : ℕ) (b : Book) → SoundBook legal given b → (place : ℕ) → place < places → (o : Resting) → given < o .number → SoundOrder legal (o .number) o
+    → SoundBook legal (o .number) (stored b place o)
+stored-sound legal given b sound place here o above good =
+    changed-sound legal given (o .number) (omega arith) b (stored b place o) sound place (stored-sized b (sound .sized) place here o) (stored-elsewhere b (sound .sized) place here o)
     (record {
       free = λ e. absurd (true≢false (sym (stored-taken b (sound .sized) place here o) ∙ e));
       coded = λ e. ap valuesOf back ∙ sym (stored-raw b (sound .sized) place here o);
@@ -126,12 +127,12 @@ stored-sound step given b sound place here o above good =
     (λ p n h e f i. let least = sound .each p h .rests e .given-already in let same = i ∙ ap (λ (x : Resting). x .number) back in omega arith)
   where
     back : orderAt (stored b place o) place ≡ o
-    back = stored-order b (sound .sized) place here o (legal-limit step (o .limit) (good .legal))
+    back = stored-order b (sound .sized) place here o (good .limit-in-range)
 
 -- Any place may be cleared.
-pub cleared-sound : (step given : ℕ) (b : Book) → SoundBook step given b → (place : ℕ) → place < places → SoundBook step given (cleared b place)
-cleared-sound step given b sound place here =
-    changed-sound step given given (omega arith) b (cleared b place) sound place (cleared-sized b (sound .sized) place here) (cleared-elsewhere b (sound .sized) place here)
+pub cleared-sound : (legal : ℕ → Bool) (given : ℕ) (b : Book) → SoundBook legal given b → (place : ℕ) → place < places → SoundBook legal given (cleared b place)
+cleared-sound legal given b sound place here =
+    changed-sound legal given given (omega arith) b (cleared b place) sound place (cleared-sized b (sound .sized) place here) (cleared-elsewhere b (sound .sized) place here)
     (record {
       free = λ e. cleared-raw b (sound .sized) place here;
       coded = λ e. absurd (never e);

@@ -36,7 +36,7 @@ use Rattle.auction.specs.Outcome.{trades, outcomeNumber, priceAnswered, quantit
 use Rattle.auction.specs.After.{remaining, ends, leaves, restOf, rest-keeps}
 use Rattle.trades.specs.Written.{quadruples, quadruples-length, tradesRead, trades-back}
 use Rattle.session.specs.declared.{Session.Session}
-use Rattle.session.specs.Sound.{Sound}
+use Rattle.session.specs.Sound.{legalPrice, Sound}
 use Rattle.session.specs.Auctions.{AuctionLeaves, part, heldBy, outcomeOf, tradesNow, sessionAfter, auctionDone, auctioned}
 use Rattle.demands.specs.Traded.{Ranged, sound-ranged, no-list-moves-more, bought-is-sold, nobody-passed-over, nothing-left-could-trade, list-of-trades}
 use Rattle.demands.specs.Outcomes.{CarriedOut, carried-out}
@@ -137,7 +137,7 @@ stays-whole a ts o e live away =
     lasts Closing v h = absurd h
 
 -- what rests afterwards and takes part is what is left of those that took part
-module _ (step given : ℕ) (a : Auction) (ts : List Trade) (b : Book) (sound : SoundBook step given b) where
+module _ (legal : ℕ → Bool) (given : ℕ) (a : Auction) (ts : List Trade) (b : Book) (sound : SoundBook legal given b) where
   rest-remains : (o x : Resting) → restOf a ts o ≡ some x → x ≡ remaining ts o
   unfolding restOf
   rest-remains o x = go (leaves a (remaining ts o))
@@ -159,7 +159,7 @@ module _ (step given : ℕ) (a : Auction) (ts : List Trade) (b : Book) (sound : 
       each : (x : Resting) → x ∈ takingPart a (resting (changed (restOf a ts) b)) → wants x ≡ 0
       each x m =
           let (here, takes) = takingPart-elim a (resting (changed (restOf a ts) b)) m in
-          let (o, rested, left) = changed-resting step given (restOf a ts) (rest-keeps step given a ts) b sound x .0 here in
+          let (o, rested, left) = changed-resting legal given (restOf a ts) (rest-keeps legal given a ts) b sound x .0 here in
           let is = rest-remains o x left in
           let took = takingPart-intro a rested (rw is at takes) in
           rw is (nothing _ _ (le-sum (λ (y : Resting). wants (remaining ts y)) took) (sym (sum-map wants (remaining ts) (takingPart a (resting b))) ∙ none-left))
@@ -216,7 +216,7 @@ module _ (s : Session) (sound : Sound s) (a : Auction) (list : List ℕ) (room :
       let law = nothing-left-could-trade (heldBy s a) a (s .parameters .threshold .0) (s .reference .0) (resting (s .book)) ranged h in
       record {
         of-those = rw read-done law;
-        resting-after = λ q. rw changed-done (after-executable (s .parameters .step .0) (s .given) a (tradesNow s a) (s .book) (sound .book-sound) q (law q));
+        resting-after = λ q. rw changed-done (after-executable (legalPrice s) (s .given) a (tradesNow s a) (s .book) (sound .book-sound) q (law q));
       }
 
   pairing-done : tradesNow s a ≡ paired (fills Buy (quantityAnswered (outcomeOf s a)) (part s a)) (fills Sell (quantityAnswered (outcomeOf s a)) (part s a))
@@ -256,7 +256,7 @@ module _ (s : Session) (sound : Sound s) (a : Auction) (list : List ℕ) (room :
   after-done : (p : ℕ) → p < places → AfterAt (restOf a (tradesNow s a)) (s .book) (sessionAfter s a (part s a) (outcomeOf s a) .book) p
   after-done =
       rw changed-done
-      (changed-at (s .parameters .step .0) (s .given) (restOf a (tradesNow s a)) (rest-keeps (s .parameters .step .0) (s .given) a (tradesNow s a)) (s .book) (sound .book-sound))
+      (changed-at (legalPrice s) (s .given) (restOf a (tradesNow s a)) (rest-keeps (legalPrice s) (s .given) a (tradesNow s a)) (s .book) (sound .book-sound))
 
   book-done : BookAfter s a (auctionDone s a list)
   book-done = record {

@@ -23,7 +23,7 @@ use Rattle.session.specs.declared.Entered.{Entered as Returned}
 use Rattle.session.specs.declared.Deleted.{Deleted as Removed}
 use Rattle.refusals.specs.Checks.{firstHit, answered-done}
 use Rattle.session.specs.Entry.{orderChecks, orderRefused, orderDone, orderEntered, entered, enteredSession, deleteChecks, deleteRefused, deleteDone, deleted, deletedSession}
-use Rattle.session.specs.Sound.{Sound, accepted, delete-room}
+use Rattle.session.specs.Sound.{legalPrice, Sound, accepted, delete-room}
 use Rattle.demands.specs.Answers.{order-answer, delete-answer}
 
 -- B3. The lowest free place is the first whose bit is 0, and the count is that of the taken places.
@@ -100,6 +100,6 @@ accepted-deletion s number member sound done =
     record {
       session-after = deleted-after s number member h;
       was-there = found;
-      rests = rw same at (cleared-resting (s .parameters .step .0) (s .given) (s .book) (sound .book-sound) place room taken);
+      rests = rw same at (cleared-resting (legalPrice s) (s .given) (s .book) (sound .book-sound) place room taken);
       elsewhere = λ p n. ap orderFrom (cleared-elsewhere (s .book) (sound .book-sound .sized) place room p n .1);
     }

@@ -12,7 +12,6 @@ use lib.Dec.{T, leb}
 use lib.ListN.{length}
 use Rattle.lists.specs.Tests.{tests, and-both, test-holds}
 use Rattle.terms.specs.Bounds.{tradeListLength}
-use Rattle.terms.specs.Kinds.{isReference}
 use Rattle.terms.specs.Orders.{auctionNumber, isAuction, auctionFrom}
 use Rattle.terms.specs.Parameters.{parametersFrom}
 use Rattle.terms.specs.declared.orders.{Auction.Auction, Auction.the-variants.Opening, Auction.the-variants.Closing, Entry.Entry}
@@ -33,7 +32,7 @@ use Rattle.refusals.specs.Phases.{hasStarted, phaseAfter}
 use Rattle.refusals.specs.Checks.{firstHit, answeredBy, answered-cases, answered-done}
 use Rattle.refusals.specs.Exactly.{clear}
 use Rattle.session.specs.Entry.{startChecks, startRefused, startDone, started, orderChecks, orderRefused, orderDone, entered, deleteChecks, deleteRefused, deleteDone, deleted}
-use Rattle.session.specs.Sound.{Sound}
+use Rattle.session.specs.Sound.{legalPrice, Sound}
 use Rattle.session.specs.Auctions.{AuctionLeaves, part, delayable, heldBy, outcomeOf, answerOf, sessionAfter, auctionLeaves, auctionChecks, auctionRefused, auctionDone, auctioned, theoreticalChecks, theoreticalRefused, theoreticalDone, theoretical}
 use Rattle.demands.specs.Answers.{auction-answer}
 use Rattle.demands.specs.Sequences.{Act, Call, acted, after, run}
@@ -297,10 +296,10 @@ delayed-once s which list h cs again lent =
 -- B7. An auction price, of outcome 1 or 4, is a price and a multiple of the step.
 pub answered-price-is-legal : (s : Session) → Sound s → (a : Auction) (list : List ℕ) → auctioned s (auctionNumber a) list .returned .answer ≡ 0
     → (auctioned s (auctionNumber a) list .returned .result .outcome ≡ 1) ⊎ (auctioned s (auctionNumber a) list .returned .result .outcome ≡ 4)
-    → T (isReference (s .parameters .step .0) (auctioned s (auctionNumber a) list .returned .result .price))
+    → T (legalPrice s (auctioned s (auctionNumber a) list .returned .result .price))
 answered-price-is-legal s sound a list accepted which =
-    price-is-legal a (s .parameters .step .0) (s .reference .0) (resting (s .book)) (sound .reference-holds)
-    (λ o m. resting-sound (s .parameters .step .0) (s .given) (s .book) (sound .book-sound) o m .legal)
+    price-is-legal a (legalPrice s) (s .reference .0) (resting (s .book)) (sound .reference-holds)
+    (λ o m. resting-sound (legalPrice s) (s .given) (s .book) (sound .book-sound) o m .limit-legal)
     (auctioned s (auctionNumber a) list .returned .result .price) (outcomes-in-order s a list accepted .priced which .0)
 
 -- C5. Non Opening exactly when no trade list at any price fills every unlimited order taking part ..

@@ -1,12 +1,12 @@
 -- The price: candidates suffice (B5), the last rule never meets two equally near (B6), and the price is legal (B7).
 use Prim.Native.Nat.{ℕ, _≤_}
+use mathlib.Core.Bool.{Bool}
 use mathlib.Core.Option.{some}
 use mathlib.Core.Path.{_≡_}
 use mathlib.Core.List.{List}
 use lib.Dec.{T}
 use Rattle.lists.specs.Sums.{_∈_, apart}
 use Rattle.lists.specs.Choice.{smallest}
-use Rattle.terms.specs.Kinds.{isReference}
 use Rattle.terms.specs.Orders.{Resting, isLegal}
 use Rattle.terms.specs.declared.orders.{Auction.Auction}
 use Rattle.queue.specs.Part.{takingPart, takingPart-elim}
@@ -25,6 +25,6 @@ pub one-nearest : (a : Auction) (reference : ℕ) (resting : List Resting) {p q 
 one-nearest a reference resting m n = nearest-one reference (takingPart a resting) m n
 
 -- B7.
-pub price-is-legal : (a : Auction) (step reference : ℕ) (resting : List Resting) → T (isReference step reference) → ((o : Resting) → o ∈ resting → T (isLegal step (o .limit)))
-    → (p : ℕ) → auctionPrice reference (takingPart a resting) ≡ some p → T (isReference step p)
-price-is-legal a step reference resting r legal p e = price-legal step reference (takingPart a resting) r (λ o m. legal o (takingPart-elim a resting m .0)) p e
+pub price-is-legal : (a : Auction) (legal : ℕ → Bool) (reference : ℕ) (resting : List Resting) → T (legal reference) → ((o : Resting) → o ∈ resting → T (isLegal legal (o .limit)))
+    → (p : ℕ) → auctionPrice reference (takingPart a resting) ≡ some p → T (legal p)
+price-is-legal a legal reference resting r limits p e = price-legal legal reference (takingPart a resting) r (λ o m. limits o (takingPart-elim a resting m .0)) p e

@@ -13,7 +13,7 @@ use Rattle.terms.specs.declared.orders.{Side.Side, Auction.Auction, Auction.the
 use Rattle.book.specs.Resting.{resting}
 use Rattle.book.specs.Rests.{resting-length}
 use Rattle.session.specs.declared.{Session.Session}
-use Rattle.session.specs.Sound.{Sound}
+use Rattle.session.specs.Sound.{legalPrice, Sound}
 use Rattle.session.specs.Auctions.{heldBy}
 use Rattle.queue.specs.Reach.{resting-distinct, resting-live}
 use Rattle.queue.specs.Part.{takingPart, takingPart-distinct, takingPart-elim, takingPart-length}
@@ -41,8 +41,8 @@ pub record Ranged (resting : List Resting) : Type 0 where
 -- every session that can be reached has such a book (A6)
 pub sound-ranged : (s : Session) → Sound s → Ranged (resting (s .book))
 sound-ranged s sound = record {
-  distinct = resting-distinct (s .parameters .step .0) (s .given) (s .book) (sound .book-sound);
-  live = resting-live (s .parameters .step .0) (s .given) (s .book) (sound .book-sound);
+  distinct = resting-distinct (legalPrice s) (s .given) (s .book) (sound .book-sound);
+  live = resting-live (legalPrice s) (s .given) (s .book) (sound .book-sound);
   few = resting-length (s .book) places;
 }
 

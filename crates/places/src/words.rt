@@ -3,7 +3,7 @@ use terms::Place;
 ghost use mathlib.Core.Path.{_≡_};
 ghost use Prim.Native.Nat.{_<_, _≤_};
 ghost use lib.ListN.{set};
-ghost use Rattle.places.specs.Places.{bit, total, lowestFree, countTaken, withBit, withoutBit};
+ghost use Rattle.places.specs.Places.{wordPlaces, wordCount, bit, total, lowestFree, countTaken, withBit, withoutBit};
 ghost use Rattle.places.specs.Words.{LowClear};
 
 // Eight words of 64 places each.
@@ -13,7 +13,7 @@ pub const WORD_PLACES: usize = 64;
 
 // The bit k of a word.
 pub fn bit_of(word: u64, k: usize) -> u64
-    requires { ⌜ k < 64 ⌝ }
+    requires { ⌜ k < wordPlaces ⌝ }
     ensures { λ r. ⌜ r ≡ bit k word ⌝ }
 {
     (word >> k) % 2
@@ -27,7 +27,7 @@ fn low_clear(word: u64) -> usize
 }
 
 fn set_bits(word: u64) -> usize
-    ensures { λ r. ⌜ (r ≡ total (λ k. bit k word) 64) × (r ≤ 64) ⌝ }
+    ensures { λ r. ⌜ (r ≡ total (λ k. bit k word) wordPlaces) × (r ≤ wordPlaces) ⌝ }
 {
     u64::count_ones(word) as usize
 }
@@ -60,14 +60,14 @@ pub fn count_taken(taken: [u64; WORDS]) -> usize
 }
 
 pub fn with_bit(word: u64, k: usize) -> u64
-    requires { ⌜ k < 64 ⌝ }
+    requires { ⌜ k < wordPlaces ⌝ }
     ensures { λ r. ⌜ r ≡ withBit k word ⌝ }
 {
     word | (1 << k)
 }
 
 pub fn without_bit(word: u64, k: usize) -> u64
-    requires { ⌜ k < 64 ⌝ }
+    requires { ⌜ k < wordPlaces ⌝ }
     ensures { λ r. ⌜ r ≡ withoutBit k word ⌝ }
 {
     if bit_of(word, k) == 1 {
@@ -79,7 +79,7 @@ pub fn without_bit(word: u64, k: usize) -> u64
 
 // A word stored in words that are lent.
 pub fn put_word(words: &mut [u64; WORDS], j: usize, word: u64)
-    requires { ⌜ j < 8 ⌝ }
+    requires { ⌜ j < wordCount ⌝ }
     ensures { λ _. ⌜ now (words .exit) ≡ set (now (words .entry)) j word ⌝ }
 {
     words[j] = word;

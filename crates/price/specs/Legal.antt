@@ -1,11 +1,11 @@
 -- A legal price: 01 "The price", "the price found is always a multiple of the step" (B7).
 use Prim.Native.Nat.{ℕ}
+use mathlib.Core.Bool.{Bool}
 use mathlib.Core.Option.{some}
 use mathlib.Core.Path.{_≡_, refl}
 use mathlib.Core.List.{List, [], _∷_, List·Memᴰ·head, List·Memᴰ·tail, List·Memᴰ·not-nil}
 use lib.Dec.{T}
 use Rattle.lists.specs.Sums.{_∈_}
-use Rattle.terms.specs.Kinds.{isReference}
 use Rattle.terms.specs.Orders.{Resting, isLegal}
 use Rattle.terms.specs.declared.kinds.{Price.Price}
 use Rattle.terms.specs.declared.orders.{Limit.Limit, Limit.the-variants.Unlimited, Limit.the-variants.At}
@@ -21,11 +21,11 @@ limits-all P ask told (o ∷ os) h p m = go (o .limit) (h o (List·Memᴰ·head 
     go (At l) k below (List·Memᴰ·head e) = rw e (told l k)
     go (At l) k below (List·Memᴰ·tail m) = below m
 
--- The auction price is a price and a multiple of the step, where the limits and the reference price are (B7).
-pub price-legal : (step reference : ℕ) (book : List Resting) → T (isReference step reference) → ((o : Resting) → o ∈ book → T (isLegal step (o .limit)))
-    → (p : ℕ) → auctionPrice reference book ≡ some p → T (isReference step p)
-price-legal step reference book r h p e = go (price-candidate reference book p e)
+-- The auction price is legal, where the limits and the reference price are (B7).
+pub price-legal : (legal : ℕ → Bool) (reference : ℕ) (book : List Resting) → T (legal reference) → ((o : Resting) → o ∈ book → T (isLegal legal (o .limit)))
+    → (p : ℕ) → auctionPrice reference book ≡ some p → T (legal p)
+price-legal legal reference book r h p e = go (price-candidate reference book p e)
   where
-    go : p ∈ candidates reference book → T (isReference step p)
+    go : p ∈ candidates reference book → T (legal p)
     go (List·Memᴰ·head i) = rw i r
-    go (List·Memᴰ·tail m) = limits-all (λ p. T (isReference step p)) (λ w. T (isLegal step w)) (λ p k. k) book h p m
+    go (List·Memᴰ·tail m) = limits-all (λ p. T (legal p)) (λ w. T (isLegal legal w)) (λ p k. k) book h p m

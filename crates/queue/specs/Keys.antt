@@ -7,12 +7,12 @@ use native.Mathlib.Omega.{arith}
 use borrow.Author.Tests.{ne-eqb, lt-ltb, le-ltb, le-leb, lt-leb}
 use lib.Dec.{T, not-T, leb, ltb}
 use Rattle.lists.specs.Tests.{tests, decided, same-test, and-both, and-intro, or-cases, or-left, or-right}
-use Rattle.terms.specs.Bounds.{places, maxNumber}
+use Rattle.terms.specs.Bounds.{places}
 use Rattle.terms.specs.Orders.{limitFrom}
 use Rattle.terms.specs.declared.orders.{Side.Side, Side.the-variants.Buy, Side.the-variants.Sell}
 use Rattle.queue.specs.Sides.{allows, isUnlimited}
 use Rattle.queue.specs.Rank.{betterLimit}
-use Rattle.queue.specs.Ranks.{limitRoom, keyRoom, priceKey, rankOf, rankBound, placeOfRank}
+use Rattle.queue.specs.Ranks.{limitRoom, numberRoom, keyRoom, priceKey, rankOf, rankBound, placeOfRank}
 
 -- the key of a buy's limit
 buy-key : (l : ℕ) → priceKey Buy (suc l) ≡ limitRoom - suc l
@@ -30,7 +30,7 @@ key-better Buy (suc l) (suc m) h k = rw (buy-key l, buy-key m) (same-test (ltb (
 key-better Sell (suc l) (suc m) h k = refl
 
 -- the lower rank: by key, and by number where neither key is lower
-number-better : (k j n m p q : ℕ) → n ≤ maxNumber → m ≤ maxNumber → n ≢ m → p < places → q < places
+number-better : (k j n m p q : ℕ) → n < numberRoom → m < numberRoom → n ≢ m → p < places → q < places
     → leb (k * keyRoom + n * places + p) (j * keyRoom + m * places + q) ≡ (ltb k j || (not (ltb j k) && ltb n m))
 number-better k j n m p q hn hm d hp hq = same-test (leb (k * keyRoom + n * places + p) (j * keyRoom + m * places + q)) (ltb k j || (not (ltb j k) && ltb n m)) to back
   where
@@ -49,7 +49,7 @@ number-better k j n m p q hn hm d hp hq = same-test (leb (k * keyRoom + n * plac
         (or-cases (ltb k j) (not (ltb j k) && ltb n m) t)
 
 -- a key is within another where its ranks are below the bound
-key-within : (k j n p : ℕ) → n ≤ maxNumber → p < places → ltb (k * keyRoom + n * places + p) ((j + 1) * keyRoom) ≡ leb k j
+key-within : (k j n p : ℕ) → n < numberRoom → p < places → ltb (k * keyRoom + n * places + p) ((j + 1) * keyRoom) ≡ leb k j
 key-within k j n p hn hp = same-test (ltb (k * keyRoom + n * places + p) ((j + 1) * keyRoom)) (leb k j) (λ t. omega tests) (λ t. omega tests)
 
 key-allows : (s : Side) (l price : ℕ) → l < limitRoom → 0 < price → price < limitRoom → leb (priceKey s l) (priceKey s price) ≡ allows s price (limitFrom l)
@@ -73,9 +73,9 @@ module _ (s : Side) (l n p : ℕ) (here : p < places) where
       of : (k : ℕ) → placeOfRank (k * keyRoom + n * places + p) ≡ p
       of k = omega arith
 
-  module _ (small : l < limitRoom) (given : n ≤ maxNumber) where
+  module _ (small : l < limitRoom) (given : n < numberRoom) where
     -- it is the lower one of two where its order is ahead
-    pub rank-ahead : (m o q : ℕ) → q < places → m < limitRoom → o ≤ maxNumber → n ≢ o
+    pub rank-ahead : (m o q : ℕ) → q < places → m < limitRoom → o < numberRoom → n ≢ o
         → leb (rankOf s l n p) (rankOf s m o q) ≡ (betterLimit s (limitFrom l) (limitFrom m) || (not (betterLimit s (limitFrom m) (limitFrom l)) && ltb n o))
     rank-ahead m o q there little known apart =
         number-better (priceKey s l) (priceKey s m) n o p q given known apart here there

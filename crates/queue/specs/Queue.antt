@@ -11,9 +11,9 @@ use Rattle.lists.specs.Tests.{tests, and-both}
 use Rattle.lists.specs.Sums.{_∈_}
 use Rattle.lists.specs.Choice.{keep}
 use Rattle.lists.specs.Ranking.{rank, rank-elim, Agreeing, rank-map}
-use Rattle.terms.specs.Bounds.{places, maxPrice, maxNumber}
-use Rattle.terms.specs.Kinds.{isPrice, isMultiple}
-use Rattle.terms.specs.Orders.{Resting, sideNumber, sideFrom, validityFrom, limitFrom, isLegal}
+use Rattle.terms.specs.Bounds.{places, minPrice, maxPrice}
+use Rattle.terms.specs.Kinds.{isPrice}
+use Rattle.terms.specs.Orders.{Resting, sideNumber, sideFrom, validityFrom, limitFrom, isLimit}
 use Rattle.terms.specs.declared.orders.{Side.Side, Side.the-variants.Buy, Side.the-variants.Sell, Auction.Auction}
 use Rattle.book.specs.declared.Book.{Book}
 use Rattle.places.specs.Places.{isTaken}
@@ -24,7 +24,7 @@ use Rattle.book.specs.Sound.{SoundBook}
 use Rattle.queue.specs.Sides.{sameSide, allows, isUnlimited}
 use Rattle.queue.specs.Part.{takesPart, takingPart}
 use Rattle.queue.specs.Rank.{ahead, onSide, ranked}
-use Rattle.queue.specs.Ranks.{limitRoom, rankOf, rankBound, placeOfRank, standsAs, ranksFrom}
+use Rattle.queue.specs.Ranks.{limitRoom, numberRoom, rankOf, rankBound, placeOfRank, standsAs, ranksFrom}
 use Rattle.queue.specs.Keys.{rank-place, rank-ahead, rank-allows, rank-unlimited}
 
 -- the orders that rest at n places from one on, by place
@@ -55,12 +55,14 @@ zero-stands : (s : Side) (a : Auction) (y : ℕ) → standsAs s a 0 y ≡ false
 zero-stands Buy a y = refl
 zero-stands Sell a y = refl
 
-legal-small : (step l : ℕ) → T (isLegal step (limitFrom l)) → l < limitRoom
-legal-small step zero h = omega arith
-legal-small step (suc l) h =
-    let price = and-both (isPrice (suc l)) (isMultiple step (suc l)) h .0 in
-    let top = and-both (leb 1 (suc l)) (leb (suc l) maxPrice) price .1 in
-    omega tests
+-- a price has room in a rank ..
+pub price-room : (p : ℕ) → T (isPrice p) → (0 < p) × (p < limitRoom)
+price-room p h = let (low, high) = and-both (leb minPrice p) (leb p maxPrice) h in (omega tests, omega tests)
+
+-- .. and so has a limit under its number
+limit-room : (l : ℕ) → T (isLimit (limitFrom l)) → l < limitRoom
+limit-room zero h = omega arith
+limit-room (suc l) h = price-room (suc l) h .1
 
 -- the rank of an order that rests
 abbrev rankAt : Side → Book → ℕ → ℕ
@@ -72,13 +74,13 @@ pub record RankOfBook (s : Side) (b : Book) (r : ℕ) : Type 0 where
   pub taken : isTaken (b .taken) (placeOfRank r) ≡ true
   pub is : r ≡ rankOf s (getD (b .limit) (placeOfRank r) 0) (getD (b .number) (placeOfRank r) 0) (placeOfRank r)
 
-module _ (step given : ℕ) (b : Book) (sound : SoundBook step given b) (enough : given ≤ maxNumber) (s : Side) where
+module _ (legal : ℕ → Bool) (given : ℕ) (b : Book) (sound : SoundBook legal given b) (enough : given < numberRoom) (s : Side) where
   -- a taken place
   module _ (p : ℕ) (here : p < places) (taken : isTaken (b .taken) p ≡ true) where
     small-limit : getD (b .limit) p 0 < limitRoom
-    small-limit = legal-small step (getD (b .limit) p 0) (sound .each p here .rests taken .legal)
+    small-limit = limit-room (getD (b .limit) p 0) (sound .each p here .rests taken .limit-in-range)
 
-    small-number : getD (b .number) p 0 ≤ maxNumber
+    small-number : getD (b .number) p 0 < numberRoom
     small-number = omega (arith, sound .each p here .rests taken .given-already)
 
     rank-known : (r : ℕ) → r ≡ rankAt s b p → (placeOfRank r ≡ p) × RankOfBook s b r

@@ -17,9 +17,9 @@ use Rattle.book.specs.Rests.{resting-elim}
 use Rattle.book.specs.Sound.{SoundOrder, SoundBook}
 use Rattle.queue.specs.Distinct.{Distinct, distinct-snoc}
 
-module _ (step given : ℕ) (b : Book) (sound : SoundBook step given b) where
+module _ (legal : ℕ → Bool) (given : ℕ) (b : Book) (sound : SoundBook legal given b) where
   -- every resting order may rest
-  pub resting-sound : (o : Resting) → o ∈ resting b → SoundOrder step given o
+  pub resting-sound : (o : Resting) → o ∈ resting b → SoundOrder legal given o
   resting-sound o m = let s = resting-elim b places m in rw (s .is) (sound .each (s .place) (s .below) .rests (s .taken))
 
   -- their numbers are distinct

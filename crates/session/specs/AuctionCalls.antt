@@ -31,7 +31,7 @@ use Rattle.refusals.specs.Phases.{phaseAfter}
 use Rattle.refusals.specs.Checks.{Check, firstHit, answered-refused, answered-done, hits, passes}
 use Rattle.refusals.specs.Rows.{auctionLater, theoreticalLater}
 use Rattle.refusals.specs.Exactly.{clear}
-use Rattle.session.specs.Sound.{Sound}
+use Rattle.session.specs.Sound.{legalPrice, legal-in-range, Sound, number-room}
 use Rattle.session.specs.State.{passedOn, delayGiven}
 use Rattle.session.specs.Auctions.{part, preventable, delayable, heldBy, outcomeOf, answerOf, auctionChecks, auctionLeaves, auctionRefused, auctionDone, auctioned, theoreticalChecks, theoreticalRefused, theoreticalDone, theoretical}
 
@@ -71,7 +71,7 @@ module _ (s : Session) (sound : Sound s) (a : Auction) where
   Closes price quantity reference count after list left = Leaves s a price quantity reference count after list left
 
   by-ranks : (quantity : ℕ) → tradesBy s a quantity ≡ tradesOf quantity (part s a)
-  by-ranks quantity = trades-in (s .parameters .step .0) (s .given) (s .book) (sound .book-sound) (sound .numbers-left) a quantity
+  by-ranks quantity = trades-in (legalPrice s) (s .given) (s .book) (sound .book-sound) (number-room s sound) a quantity
 
   enough : (price quantity : ℕ) → outcomeOf s a ≡ Traded price quantity → (on : Side) → quantity ≤ interest on price (part s a)
   unfolding outcomeOf
@@ -84,13 +84,13 @@ module _ (s : Session) (sound : Sound s) (a : Auction) where
       → left ≡ quadruples price (tradesBy s a quantity) ++ drop (4 * count) list
       → auctionLeaves (record { answer = 0; result = record { outcome = 1; price = price; quantity = quantity; count = count }; session = closedBy s a quantity (record { 0 = price }) }) left ≡ auctionDone s a list
   traded-leaves price quantity count e c list left l =
-      rw (e, l, c, by-ranks quantity, rests-in (s .parameters .step .0) (s .given) (s .book) (sound .book-sound) (sound .numbers-left) a price quantity (enough price quantity e))
+      rw (e, l, c, by-ranks quantity, rests-in (legalPrice s) (s .given) (s .book) (sound .book-sound) (number-room s sound) a price quantity (enough price quantity e))
 
   no-trade-leaves : (price count : ℕ) → outcomeOf s a ≡ NoTrade → count ≡ length (tradesBy s a 0) → (list left : List ℕ)
       → left ≡ quadruples price (tradesBy s a 0) ++ drop (4 * count) list
       → auctionLeaves (record { answer = 0; result = record { outcome = 2; price = 0; quantity = 0; count = 0 }; session = closedBy s a 0 (s .reference) }) left ≡ auctionDone s a list
   no-trade-leaves price count e c list left l =
-      rw (e, l, c, by-ranks 0, rests-in (s .parameters .step .0) (s .given) (s .book) (sound .book-sound) (sound .numbers-left) a price 0 (λ on. omega arith), trades-none (part s a))
+      rw (e, l, c, by-ranks 0, rests-in (legalPrice s) (s .given) (s .book) (sound .book-sound) (number-room s sound) a price 0 (λ on. omega arith), trades-none (part s a))
 
   non-opening-leaves : outcomeOf s a ≡ NonOpening → (list : List ℕ)
       → auctionLeaves (record { answer = 0; result = record { outcome = 3; price = 0; quantity = 0; count = 0 }; session = s }) list ≡ auctionDone s a list
@@ -156,7 +156,7 @@ module _ (s : Session) (sound : Sound s) (a : Auction) where
       → o ≡ outcomeIn (record { preventable = prevents; delayable = delays }) (s .parameters .threshold .0) (s .reference .0) (s .book .limit) (s .book .left) buys sells → o ≡ outcomeOf s a
   unfolding outcomeOf
   outcome-by-ranks buys sells e f prevents delays g h o i =
-      i ∙ rw (e, f, g, h) (outcome-in (s .parameters .step .0) (s .given) (s .book) (sound .book-sound) (sound .numbers-left) a (heldBy s a) (s .parameters .threshold .0) (s .reference .0) (sound .reference-holds))
+      i ∙ rw (e, f, g, h) (outcome-in (legalPrice s) (s .given) (s .book) (sound .book-sound) (number-room s sound) a (heldBy s a) (s .parameters .threshold .0) (s .reference .0) (legal-in-range s (s .reference .0) (sound .reference-holds)))
 
 -- the calls from what their code learns on the way
 module _ (s : Session) (which : ℕ) where

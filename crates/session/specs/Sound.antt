@@ -5,14 +5,14 @@ use mathlib.Core.Path.{_≡_, refl, sym, subst, _∙_}
 use native.Mathlib.Omega.{arith}
 use borrow.Author.Tests.{leb-false, eqb-false, not-false, ltb-true}
 use lib.Dec.{T}
-use Rattle.lists.specs.Tests.{test-holds, and-intro}
+use Rattle.lists.specs.Tests.{test-holds, and-both, and-intro}
 use Rattle.lists.specs.Choice.{any}
 use Rattle.terms.specs.Bounds.{places, maxNumber}
 use Rattle.terms.specs.Kinds.{isStep, isPrice, isMultiple, isReference, isFactor, isThreshold, isOrderValue}
 use Rattle.terms.specs.Orders.{isLimit, isLegal, limitFrom, isEntry}
 use Rattle.terms.specs.Made.{fields-hold}
 use Rattle.terms.specs.Parameters.{areParameters, parametersFrom, isStart}
-use Rattle.terms.specs.declared.kinds.{Price.Price, Step.Step}
+use Rattle.terms.specs.declared.kinds.{Price.Price}
 use Rattle.terms.specs.declared.orders.{Limit.Limit, Limit.the-variants.Unlimited, Limit.the-variants.At, Entry.Entry}
 use Rattle.terms.specs.declared.parameters.{Start.Start, Parameters.Parameters}
 use Rattle.places.specs.Places.{lowestFree, countTaken}
@@ -21,6 +21,7 @@ use Rattle.book.specs.declared.Book.{Book}
 use Rattle.book.specs.Resting.{resting, placeOf, isOf}
 use Rattle.book.specs.Rests.{any-resting}
 use Rattle.book.specs.Sound.{SoundOrder, SoundBook, empty-sound, stored-sound, cleared-sound}
+use Rattle.queue.specs.Ranks.{numberRoom}
 use Rattle.refusals.specs.declared.phases.{Phase.Phase, Phase.the-variants.Fresh, Phase.the-variants.PreOpening, Phase.the-variants.Day, Phase.the-variants.Closed}
 use Rattle.refusals.specs.Phases.{hasStarted}
 use Rattle.refusals.specs.Checks.{firstHit, answered-cases}
@@ -30,14 +31,25 @@ use Rattle.session.specs.declared.{Session.Session, Started.Started, Ent
 use Rattle.session.specs.State.{freshSession, begun, withBook, passedOn, delayGiven}
 use Rattle.session.specs.Entry.{started, startChecks, startRefused, startDone, entered, orderChecks, orderRefused, orderDone, orderEntered, deleted, deleteChecks, deleteRefused, deleteDone}
 
+-- the legal prices of a session: those that are multiples of its step
+abbrev pub legalPrice : Session → ℕ → Bool
+legalPrice s x = isReference (s .parameters .step .0) x
+
+pub legal-in-range : (s : Session) (x : ℕ) → T (legalPrice s x) → T (isPrice x)
+legal-in-range s x h = and-both (isPrice x) _ h .0
+
 pub record Sound (s : Session) : Type 0 where
   -- a session that has not started is the fresh one
   pub fresh : s .phase ≡ Fresh → s ≡ freshSession
-  -- parameters in range, and in force a reference price that is a multiple of the step
+  -- parameters in range, and in force a reference price that is legal
   pub parameters-hold : T (areParameters (s .parameters))
-  pub reference-holds : T (isReference (s .parameters .step .0) (s .reference .0))
+  pub reference-holds : T (legalPrice s (s .reference .0))
   pub numbers-left : s .given ≤ maxNumber
-  pub book-sound : SoundBook (s .parameters .step .0) (s .given) (s .book)
+  pub book-sound : SoundBook (legalPrice s) (s .given) (s .book)
+
+-- every number given has room in a rank
+pub number-room : (s : Session) → Sound s → s .given < numberRoom
+number-room s sound = omega (arith, sound .numbers-left)
 
 pub fresh-sound : Sound freshSession
 fresh-sound = record {
@@ -45,7 +57,7 @@ fresh-sound = record {
   parameters-hold = tt;
   reference-holds = tt;
   numbers-left = omega arith;
-  book-sound = empty-sound 1 0;
+  book-sound = empty-sound (legalPrice freshSession) 0;
 }
 
 not-started : (p : Phase) → hasStarted p ≡ false → p ≡ Fresh
@@ -68,12 +80,12 @@ module _ (s : Session) (sound : Sound s) where
         fresh = λ i. let z : _≡_ {A = ℕ} 0 1 = cc in absurd (omega arith);
         parameters-hold = holds;
         reference-holds =
-            reference-of (isStep (p .step .0)) (isReference (p .step .0) (p .reference .0)) (isFactor (p .factor .0)) (isThreshold (p .threshold .0)) (isOrderValue (p .most .0)) holds;
+            reference-of (isStep (p .step .0)) (legalPrice (begun s p) (p .reference .0)) (isFactor (p .factor .0)) (isThreshold (p .threshold .0)) (isOrderValue (p .most .0)) holds;
         numbers-left = sound .numbers-left;
-        book-sound = subst (λ (x : Session). SoundBook (p .step .0) (x .given) (x .book)) (sym same) (empty-sound (p .step .0) 0);
+        book-sound = subst (λ (x : Session). SoundBook (legalPrice (begun s p)) (x .given) (x .book)) (sym same) (empty-sound (legalPrice (begun s p)) 0);
       }
 
-  pub with-book-sound : T (hasStarted (s .phase)) → (given : ℕ) (book : Book) → given ≤ maxNumber → SoundBook (s .parameters .step .0) given book → Sound (withBook s given book)
+  pub with-book-sound : T (hasStarted (s .phase)) → (given : ℕ) (book : Book) → given ≤ maxNumber → SoundBook (legalPrice s) given book → Sound (withBook s given book)
   with-book-sound running given book few holds = record {
     fresh = λ i. absurd (rw i at running);
     parameters-hold = sound .parameters-hold;
@@ -82,8 +94,8 @@ module _ (s : Session) (sound : Sound s) where
     book-sound = holds;
   }
 
-  pub passed-on-sound : (phase : Phase) → (phase ≡ Fresh → ⊥) → (reference : Price) → T (isReference (s .parameters .step .0) (reference .0)) → (book : Book)
-      → SoundBook (s .parameters .step .0) (s .given) book → Sound (passedOn s phase reference book)
+  pub passed-on-sound : (phase : Phase) → (phase ≡ Fresh → ⊥) → (reference : Price) → T (legalPrice s (reference .0)) → (book : Book)
+      → SoundBook (legalPrice s) (s .given) book → Sound (passedOn s phase reference book)
   passed-on-sound phase later reference legal book holds = record {
     fresh = λ i. absurd (later i);
     parameters-hold = sound .parameters-hold;
@@ -134,16 +146,16 @@ accepted s e h =
     }
 
 -- a limit in range that is not off the step is legal
-on-step-legal : (step : Step) (w : Limit) → T (isLimit w) → T (not (offStep step w)) → T (isLegal (step .0) w)
-on-step-legal step Unlimited h k = tt
-on-step-legal step (At p) h k = and-intro (isPrice (p .0)) _ h (go (isMultiple (step .0) (p .0)) k)
+on-step-legal : (s : Session) (w : Limit) → T (isLimit w) → T (not (offStep (s .parameters .step) w)) → T (isLegal (legalPrice s) w)
+on-step-legal s Unlimited h k = tt
+on-step-legal s (At p) h k = and-intro (isPrice (p .0)) _ h (go (isMultiple (s .parameters .step .0) (p .0)) k)
   where
     go : (b : Bool) → T (not (not b)) → T b
     go true k = tt
     go false k = k
 
 -- the order that an accepted entry asks for may rest
-pub entered-order-sound : (s : Session) (e : Entry) → Accepted s e → SoundOrder (s .parameters .step .0) (s .given + 1) (orderEntered s e)
+pub entered-order-sound : (s : Session) (e : Entry) → Accepted s e → SoundOrder (legalPrice s) (s .given + 1) (orderEntered s e)
 entered-order-sound s e ok =
     let f = fields-hold e (ok .in-range) in
     record {
@@ -151,7 +163,8 @@ entered-order-sound s e ok =
       given-already = omega arith;
       of-member = f .member;
       open-quantity = f .quantity;
-      legal = on-step-legal (s .parameters .step) (limitFrom (e .limit)) (f .limit) (ok .on-step);
+      limit-in-range = f .limit;
+      limit-legal = on-step-legal s (limitFrom (e .limit)) (f .limit) (ok .on-step);
     }
 
 -- Order hands it on.
@@ -163,7 +176,7 @@ entered-sound s e sound = answered-cases (orderChecks s e) (orderRefused s) (ord
     done h =
         let ok = accepted s e h in
         with-book-sound s sound (ok .running) (s .given + 1) _ (omega (arith, ok .number-left))
-        (stored-sound (s .parameters .step .0) (s .given) (s .book) (sound .book-sound) (lowestFree (s .book .taken)) (ok .room) (orderEntered s e) (omega arith) (entered-order-sound s e ok))
+        (stored-sound (legalPrice s) (s .given) (s .book) (sound .book-sound) (lowestFree (s .book .taken)) (ok .room) (orderEntered s e) (omega arith) (entered-order-sound s e ok))
 
 -- Delete hands it on.
 pub deleted-sound : (s : Session) (number member : ℕ) → Sound s → Sound (deleted s number member .session)
@@ -171,4 +184,4 @@ unfolding deleted
 deleted-sound s number member sound =
     answered-cases (deleteChecks s number member) (deleteRefused s) (deleteDone s number member) (λ (r : Deleted). Sound (r .session)) (λ n h i. sound)
     (λ e. with-book-sound s sound (test-holds (hasStarted (s .phase)) (clear (deleteChecks s number member) tt e 2)) (s .given) _ (sound .numbers-left)
-    (cleared-sound (s .parameters .step .0) (s .given) (s .book) (sound .book-sound) (placeOf (isOf number member) (s .book)) (delete-room s number member e)))
+    (cleared-sound (legalPrice s) (s .given) (s .book) (sound .book-sound) (placeOf (isOf number member) (s .book)) (delete-room s number member e)))

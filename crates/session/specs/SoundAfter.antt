@@ -1,12 +1,12 @@
--- An auction hands Sound on: what rests of a sound order is sound, the price is a multiple of the step, the phase goes on (A3).
+-- An auction hands Sound on: what rests of a sound order is sound, the price is legal, the phase goes on (A3).
 use Prim.Native.Nat.{ℕ}
 use mathlib.Core.Path.{_≡_, refl}
 use mathlib.Core.List.{List}
 use native.Mathlib.Omega.{arith}
 use lib.Dec.{T}
 use lib.ListN.{length}
-use Rattle.lists.specs.Tests.{test-holds, and-both}
-use Rattle.terms.specs.Kinds.{isPrice, isMultiple, isReference}
+use Rattle.lists.specs.Tests.{test-holds}
+use Rattle.terms.specs.Kinds.{isPrice}
 use Rattle.terms.specs.Orders.{auctionFrom}
 use Rattle.terms.specs.declared.kinds.{Price.Price}
 use Rattle.terms.specs.declared.orders.{Auction.Auction, Auction.the-variants.Opening, Auction.the-variants.Closing}
@@ -24,7 +24,7 @@ use Rattle.session.specs.declared.{Session.Session}
 use Rattle.refusals.specs.Phases.{hasStarted, phaseAfter}
 use Rattle.refusals.specs.Checks.{answered-cases}
 use Rattle.refusals.specs.Exactly.{clear}
-use Rattle.session.specs.Sound.{Sound, passed-on-sound, delay-given-sound}
+use Rattle.session.specs.Sound.{legalPrice, legal-in-range, Sound, passed-on-sound, delay-given-sound}
 use Rattle.session.specs.Auctions.{AuctionLeaves, part, heldBy, outcomeOf, closedOut, sessionAfter, auctionChecks, auctionRefused, auctionDone, auctioned}
 
 later-phase : (a : Auction) → phaseAfter a ≡ Fresh → ⊥
@@ -32,21 +32,21 @@ later-phase Opening e = let z : _≡_ {A = ℕ} 0 1 = cc in omega arith
 later-phase Closing e = let z : _≡_ {A = ℕ} 0 1 = cc in omega arith
 
 module _ (s : Session) (sound : Sound s) (a : Auction) where
-  closed-sound : (done : List Trade) (reference : Price) → T (isReference (s .parameters .step .0) (reference .0)) → Sound (closedOut s a done reference)
+  closed-sound : (done : List Trade) (reference : Price) → T (legalPrice s (reference .0)) → Sound (closedOut s a done reference)
   closed-sound done reference legal =
       passed-on-sound s sound (phaseAfter a) (later-phase a) reference legal (changed (restOf a done) (s .book))
-      (changed-book-sound (s .parameters .step .0) (s .given) (restOf a done) (rest-keeps (s .parameters .step .0) (s .given) a done) (s .book) (sound .book-sound))
+      (changed-book-sound (legalPrice s) (s .given) (restOf a done) (rest-keeps (legalPrice s) (s .given) a done) (s .book) (sound .book-sound))
 
-  -- the price of an outcome is a price and a multiple of the step (B7)
-  pub traded-legal : (price quantity : ℕ) → outcomeOf s a ≡ Traded price quantity → T (isReference (s .parameters .step .0) price)
+  -- the price of an outcome is legal (B7)
+  pub traded-legal : (price quantity : ℕ) → outcomeOf s a ≡ Traded price quantity → T (legalPrice s price)
   unfolding outcomeOf
   traded-legal price quantity e =
-      price-legal (s .parameters .step .0) (s .reference .0) (part s a) (sound .reference-holds)
-      (λ o m. resting-sound (s .parameters .step .0) (s .given) (s .book) (sound .book-sound) o (takingPart-elim a (resting (s .book)) m .0) .legal)
+      price-legal (legalPrice s) (s .reference .0) (part s a) (sound .reference-holds)
+      (λ o m. resting-sound (legalPrice s) (s .given) (s .book) (sound .book-sound) o (takingPart-elim a (resting (s .book)) m .0) .limit-legal)
       price (outcome-traded (heldBy s a) (s .parameters .threshold .0) (s .reference .0) (part s a) price quantity e .0)
 
   pub traded-price : (price quantity : ℕ) → outcomeOf s a ≡ Traded price quantity → T (isPrice price)
-  traded-price price quantity e = and-both (isPrice price) (isMultiple (s .parameters .step .0) price) (traded-legal price quantity e) .0
+  traded-price price quantity e = legal-in-range s price (traded-legal price quantity e)
 
   after-sound : T (hasStarted (s .phase)) → (o : Outcome) → outcomeOf s a ≡ o → Sound (sessionAfter s a (part s a) o)
   after-sound running (Traded price quantity) e = closed-sound (trades (Traded price quantity) (part s a)) (record { 0 = price }) (traded-legal price quantity e)

@@ -7,6 +7,7 @@ ghost use mathlib.Core.List.{_∷_, [], _++_};
 ghost use Prim.Native.Nat.{_+_, _*_, _<_, _≤_, min};
 ghost use lib.Dec.{ltb};
 ghost use lib.ListN.{length, getD, drop};
+ghost use Rattle.terms.specs.Bounds.{places};
 ghost use Rattle.trades.specs.Written.{quadruples, wrote};
 ghost use Rattle.queue.specs.Ranks.{along};
 ghost use Rattle.trades.specs.Fronts.{advancedTo, pairedShares};
@@ -48,7 +49,7 @@ fn advanced(f: Front, q: u32, shares: &[u32]) -> Front
 
 // A trade's four numbers, where the list has room for them.
 fn write_trade(list: &mut [u32], k: usize, buy: u32, sell: u32, quantity: u32, price: u32)
-    requires { ⌜ k < 1024 ⌝ }
+    requires { ⌜ k < 2 * places ⌝ }
     ensures { λ r. ⌜ now (list .exit) ≡ wrote k (buy ∷ sell ∷ quantity ∷ price ∷ []) (now (list .entry)) ⌝ }
 {
     let at = k * Trade::NUMBERS;
@@ -86,7 +87,7 @@ pub fn pair<'a>(
     sells: &'a [u64],
     sold: &'a [u32],
 ) -> usize
-    requires { ⌜ (length (now bought) ≤ length (now buys)) × (length (now sold) ≤ length (now sells)) × (length (now bought) + length (now sold) ≤ 1024) ⌝ }
+    requires { ⌜ (length (now bought) ≤ length (now buys)) × (length (now sold) ≤ length (now sells)) × (length (now bought) + length (now sold) ≤ 2 * places) ⌝ }
     ensures { λ r. ⌜ (r ≡ length (pairedShares (now (numbers .entry)) (now (buys .entry)) (now (bought .entry)) (now (sells .entry)) (now (sold .entry)))) × (4 * r ≤ length (now (list .entry)) → now (list .exit) ≡ quadruples price (pairedShares (now (numbers .entry)) (now (buys .entry)) (now (bought .entry)) (now (sells .entry)) (now (sold .entry))) ++ drop (4 * r) (now (list .entry))) ⌝ }
 {
     let mut b = Front {

@@ -10,6 +10,7 @@ use Rattle.terms.specs.Orders.{isSide, sideFrom, isAuction, auctionFrom}
 use Rattle.book.specs.Columns.{orderAt}
 use Rattle.queue.specs.Ranks.{placeOfRank}
 use Rattle.queue.specs.Queue.{ranked-by-ranks}
+use Rattle.session.specs.Sound.{legalPrice, number-room}
 use Rattle.session.specs.QueueCalls.{queue-out-of-range, queue-turned-down, queue-room, queue-listed}
 use Rattle.session.proofs.Session.ranked.Statement.{statement}
 use Rattle.session.proofs.Session.ranked.Tie as tie
@@ -117,7 +118,7 @@ returns-4 c =
     rw (← long, c .before .before .list-numbers .ensures)
     (queue-listed (a .t1) (a .side) (a .which) (a .list .now) (sided (first k)) (called k) (i .before .ranked-refusal .ensures) (i .if1 .left) ranks
     (ap (map (λ r. orderAt (a .t1 .book) (placeOfRank r))) (ranked .ensures .1)
-    ∙ ranked-by-ranks (a .t1 .parameters .step .0) (a .t1 .given) (a .t1 .book) (begin .pre .book-sound) (begin .pre .numbers-left) (first k .before .on .given .0 .0) (k .before .auction .given .0 .0)))
+    ∙ ranked-by-ranks (legalPrice (a .t1)) (a .t1 .given) (a .t1 .book) (begin .pre .book-sound) (number-room (a .t1) (begin .pre)) (first k .before .on .given .0 .0) (k .before .auction .given .0 .0)))
 
 pub ranked-spec : {M : Type 1} → statement M
 ranked-spec =

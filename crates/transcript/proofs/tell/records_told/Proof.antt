@@ -5,6 +5,7 @@ use mathlib.Core.List.{List}
 use lib.ListN.{length}
 use Rattle.terms.specs.Bounds.{tradeListLength, places}
 use Rattle.book.specs.Hints.{sound-numbered}
+use Rattle.session.specs.Sound.{legalPrice}
 use Rattle.lines.specs.Line.{numberedLine, doneLine}
 use Rattle.session.specs.Changes.{changed}
 use Rattle.transcript.specs.declared.{Stepped.Stepped}
@@ -85,7 +86,7 @@ doing-of-requires : tie.Need-doing-of-requires Inv-loop μ-loop
 doing-of-requires c κs =
     let l = turn (c .before .before .before .before .before .before) .loop in
     let s = l .present in
-    sound-numbered (s .parameters .step .0) (s .given) (s .book) (l .inv .0 .sound .book-sound)
+    sound-numbered (legalPrice s) (s .given) (s .book) (l .inv .0 .sound .book-sound)
 
 enum-known-doing : tie.Need-enum-known-doing Inv-loop μ-loop
 enum-known-doing c = search needs
