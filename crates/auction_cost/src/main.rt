@@ -8,8 +8,8 @@ use session::Session;
 use terms::Auction;
 use terms::DelayThreshold;
 use terms::Entry;
-use terms::Limit;
 use terms::Side;
+use terms::Start;
 use terms::Validity;
 use trades::Trade;
 ghost use Prim.Native.Nat.{_≤_};
@@ -38,7 +38,13 @@ fn started() -> Session
     ensures { λ r. ⌜ Sound r ⌝ }
 {
     let fresh = Session::fresh();
-    let r = fresh.start(100, REFERENCE, 9, DelayThreshold::MAX, 1_000_000_000_000);
+    let r = fresh.start(Start {
+        step: 100,
+        reference: REFERENCE,
+        factor: 9,
+        threshold: DelayThreshold::MAX,
+        most: 1_000_000_000_000,
+    });
     let session = r.session;
     session
 }
@@ -60,7 +66,7 @@ fn day_order(side: u8, quantity: u32, limit: u32) -> Entry {
         side,
         validity: Validity::DAY,
         quantity,
-        limit: Limit::At(limit),
+        limit,
     }
 }
 

@@ -4,7 +4,7 @@ use Prim.Native.Nat.{ℕ, zero, suc, _≤_}
 use mathlib.Core.Bool.{Bool, true, false, cond, not, _&&_, true≢false}
 use mathlib.Core.Option.{Option, none, some, Option·none-ne-some, Option·some-injective}
 use mathlib.Core.Logic.{_⊎_, inl, inr, ⊎-elim, _↔_, _≢_}
-use mathlib.Core.Path.{_≡_, refl, sym, subst, _∙_}
+use mathlib.Core.Path.{_≡_, refl, sym, ap, subst, _∙_}
 use mathlib.Core.List.{List, [], _∷_}
 use native.Mathlib.Omega.{arith}
 use borrow.Author.Tests.{le-ltb, ltb-false}
@@ -64,7 +64,8 @@ pub record CarriedOut (s : Session) (a : Auction) (list : List ℕ) : Type 0 whe
 done-leaves : (s : Session) (a : Auction) (list : List ℕ) → 0 ≡ firstHit (auctionChecks s (auctionNumber a) (length list)) → auctionDone s a list ≡ auctioned s (auctionNumber a) list
 unfolding auctioned
 done-leaves s a list h =
-    rw (← auction-numbered a) (answered-done (auctionChecks s (auctionNumber a) (length list)) (auctionRefused s list) (auctionDone s (auctionFrom (auctionNumber a)) list) h)
+    ap (λ (x : Auction). auctionDone s x list) (sym (auction-numbered a))
+    ∙ answered-done (auctionChecks s (auctionNumber a) (length list)) (auctionRefused s list) (auctionDone s (auctionFrom (auctionNumber a)) list) h
 
 pub carried-out : (s : Session) (a : Auction) (list : List ℕ) → auctioned s (auctionNumber a) list .returned .answer ≡ 0 → CarriedOut s a list
 carried-out s a list accepted =
@@ -341,12 +342,8 @@ theoretical-foresees s which list long =
     let (answer, result) = go (firstHit (theoreticalChecks s which)) in
     record { answer = rw (same-checks s which list long) answer; result = rw (same-checks s which list long) result }
   where
-    abbrev foreseen : ℕ → Foreseen
-    foreseen n = answeredBy n theoreticalRefused (theoreticalDone s (auctionFrom which))
-
-    abbrev done : ℕ → AuctionLeaves
-    done n = answeredBy n (auctionRefused s list) (auctionDone s (auctionFrom which) list)
-
-    go : (n : ℕ) → (foreseen n .answer ≡ done n .returned .answer) × (foreseen n .result ≡ done n .returned .result)
+    go : (n : ℕ)
+        → (answeredBy n theoreticalRefused (theoreticalDone s (auctionFrom which)) .answer ≡ answeredBy n (auctionRefused s list) (auctionDone s (auctionFrom which) list) .returned .answer)
+        × (answeredBy n theoreticalRefused (theoreticalDone s (auctionFrom which)) .result ≡ answeredBy n (auctionRefused s list) (auctionDone s (auctionFrom which) list) .returned .result)
     go zero = (refl, refl)
     go (suc n) = (refl, refl)

@@ -2,7 +2,7 @@
 -- side that take part, and doesn't depend on places. The call writes its numbers from the front of the lent list.
 use Prim.Native.Nat.{ℕ, _≤_}
 use mathlib.Core.Logic.{_⊎_, _↔_, _≢_}
-use mathlib.Core.Path.{_≡_, refl, sym, subst, _∙_}
+use mathlib.Core.Path.{_≡_, refl, sym, ap, subst, _∙_}
 use mathlib.Core.List.{List, map}
 use native.Mathlib.Omega.{arith}
 use borrow.Author.Tests.{ltb-false}
@@ -90,8 +90,9 @@ done-leaves : (s : Session) (side : Side) (a : Auction) (list : List ℕ) → 0 
     → queueDone list (rankedNumbers s side a) ≡ queued s (sideNumber side) (auctionNumber a) list
 unfolding queued
 done-leaves s side a list h =
-    rw (← side-numbered side, ← auction-numbered a)
-    (answered-done (rankedChecks s (sideNumber side) (auctionNumber a) (length list)) (queueRefused list) (queueDone list (rankedNumbers s (sideFrom (sideNumber side)) (auctionFrom (auctionNumber a)))) h)
+    ap (λ (x : Side). queueDone list (rankedNumbers s x a)) (sym (side-numbered side))
+    ∙ ap (λ (b : Auction). queueDone list (rankedNumbers s (sideFrom (sideNumber side)) b)) (sym (auction-numbered a))
+    ∙ answered-done (rankedChecks s (sideNumber side) (auctionNumber a) (length list)) (queueRefused list) (queueDone list (rankedNumbers s (sideFrom (sideNumber side)) (auctionFrom (auctionNumber a)))) h
 
 pub queue-listed : (s : Session) → Sound s → (side : Side) (a : Auction) (list : List ℕ) → queued s (sideNumber side) (auctionNumber a) list .returned .answer ≡ 0
     → QueueListed s side a list (queued s (sideNumber side) (auctionNumber a) list)

@@ -4,9 +4,9 @@ use libc::STDIN_FILENO;
 use libc::STDOUT_FILENO;
 use session::Session;
 use terms::Entry;
-use terms::Limit;
 use terms::Place;
 use terms::Side;
+use terms::Start;
 use terms::Validity;
 ghost use Prim.Native.Nat.{_≤_};
 ghost use Rattle.session.specs.Sound.{Sound};
@@ -24,7 +24,13 @@ fn started() -> Session
     ensures { λ r. ⌜ Sound r ⌝ }
 {
     let fresh = Session::fresh();
-    let r = fresh.start(100, 100_000, 9, 150, 1_000_000_000_000);
+    let r = fresh.start(Start {
+        step: 100,
+        reference: 100_000,
+        factor: 9,
+        threshold: 150,
+        most: 1_000_000_000_000,
+    });
     let session = r.session;
     session
 }
@@ -35,7 +41,7 @@ fn day_buy() -> Entry {
         side: Side::BUY,
         validity: Validity::DAY,
         quantity: 10,
-        limit: Limit::At(100_000),
+        limit: 100_000,
     }
 }
 

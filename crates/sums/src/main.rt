@@ -5,9 +5,9 @@ use session::AuctionAnswer;
 use session::Session;
 use terms::Auction;
 use terms::Entry;
-use terms::Limit;
 use terms::Place;
 use terms::Side;
+use terms::Start;
 use terms::Validity;
 use trades::Trade;
 ghost use Rattle.session.specs.Sound.{Sound};
@@ -35,7 +35,13 @@ fn started(reference: u32) -> Session
     ensures { λ r. ⌜ Sound r ⌝ }
 {
     let fresh = Session::fresh();
-    let r = fresh.start(100, reference, 9, 150, 1_000_000_000_000);
+    let r = fresh.start(Start {
+        step: 100,
+        reference,
+        factor: 9,
+        threshold: 150,
+        most: 1_000_000_000_000,
+    });
     let session = r.session;
     session
 }
@@ -47,7 +53,7 @@ fn entry(side: u8, validity: u8, quantity: u32, limit: u32) -> Entry {
         side,
         validity,
         quantity,
-        limit: Limit::from(limit),
+        limit,
     }
 }
 
