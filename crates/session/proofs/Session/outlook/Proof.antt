@@ -81,8 +81,8 @@ returns c =
     let ranked2 = s .ranked2 in
     let d = c .before .before .before .before .before .before .before .before in (
       outcome-by-ranks (a .t1) (start b .pre .0) (a .auction) (take (ranked .result) (ranked .last .0)) (take (ranked2 .result) (ranked2 .last .0)) (ranked .ensures .1) (ranked2 .ensures .1)
-      (d .before .before .preventable .result) (d .before .delayable .result) (d .before .before .preventable .ensures) (d .before .delayable .ensures)
-      (c .outcome-now .result) (rw (d .number .ensures, c .before .before .before .before .before .before .number2 .ensures) at (c .outcome-now .ensures)),
+          (d .before .before .preventable .result) (d .before .delayable .result) (d .before .before .preventable .ensures) (d .before .delayable .ensures)
+          (c .outcome-now .result) (rw (d .number .ensures, c .before .before .before .before .before .before .number2 .ensures) at (c .outcome-now .ensures)),
       ranked .ensures .0,
       ranked .ensures .1,
       ranked2 .ensures .0,
