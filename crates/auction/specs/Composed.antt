@@ -5,14 +5,14 @@ use mathlib.Core.List.{List, [], _∷_}
 use native.Mathlib.Omega.{arith}
 use lib.ListN.{length}
 use Rattle.terms.specs.declared.orders.{Side.the-variants.Buy, Side.the-variants.Sell}
-use Rattle.queue.specs.Ranks.{rankBound, along}
+use Rattle.queue.specs.RankNumbers.{rankBound, along}
 use Rattle.fills.specs.Shares.{lessened}
 use Rattle.price.specs.declared.search.{Found.Found}
 use Rattle.price.specs.Search.{sumBelow, offered, searchedIn}
 use Rattle.auction.specs.declared.{Outcome.Outcome}
 use Rattle.auction.specs.Outcome.{Held}
 use Rattle.auction.specs.Decided.{outcomeFrom}
-use Rattle.trades.specs.Fronts.{sharePairs, numbersLeft, sharesLeft, pairedShares}
+use Rattle.trades.specs.OverShares.{sharePairs, numbersLeft, sharesLeft, pairedShares}
 use Rattle.auction.specs.Trading.{sumsOf, sharesIn, outcomeIn, tradesIn, leftIn}
 
 -- There are no more trades than shares.

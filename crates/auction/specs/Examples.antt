@@ -15,7 +15,7 @@ use Rattle.price.specs.Chain.{auctionPrice}
 use Rattle.trades.specs.declared.{Trade.Trade}
 use Rattle.auction.specs.declared.{Outcome.Outcome, Outcome.the-variants.Traded, Outcome.the-variants.NoTrade, Outcome.the-variants.NonOpening, Outcome.the-variants.Delayed}
 use Rattle.trades.specs.Trades.{traded}
-use Rattle.trades.specs.Fills.{fills, tradesOf}
+use Rattle.trades.specs.TradesOf.{fills, tradesOf}
 use Rattle.auction.specs.Outcome.{Held, unheld, nonOpening, outcome, trades}
 use Rattle.auction.specs.After.{restOf}
 

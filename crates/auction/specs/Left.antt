@@ -14,7 +14,7 @@ use Rattle.queue.specs.Distinct.{Distinct}
 use Rattle.queue.specs.Rank.{onSide}
 use Rattle.price.specs.Interest.{accepts, interest, executable}
 use Rattle.trades.specs.Trades.{traded}
-use Rattle.trades.specs.Fills.{tradesOf, allows-front, traded-front, trades-possible}
+use Rattle.trades.specs.TradesOf.{tradesOf, allows-front, traded-front, trades-possible}
 use Rattle.auction.specs.After.{remaining}
 
 module _ (p quantity : ℕ) (book : List Resting) (d : Distinct book) (enough : (s : Side) → quantity ≤ interest s p book) where

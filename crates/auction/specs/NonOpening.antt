@@ -19,7 +19,7 @@ use Rattle.price.specs.Interest.{interest, executable, executable-within}
 use Rattle.price.specs.Candidates.{limits, mostExecutable}
 use Rattle.trades.specs.declared.{Trade.Trade}
 use Rattle.trades.specs.Trades.{party, traded, volume, TradeList, volume-le-most}
-use Rattle.trades.specs.Fills.{tradesOf, traded-front, trades-possible}
+use Rattle.trades.specs.TradesOf.{tradesOf, traded-front, trades-possible}
 use Rattle.auction.specs.Outcome.{unlimited, nonOpening}
 
 -- each unlimited order trades all that it has open

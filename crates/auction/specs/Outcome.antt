@@ -18,7 +18,7 @@ use Rattle.price.specs.Candidates.{mostExecutable}
 use Rattle.price.specs.Chain.{auctionPrice}
 use Rattle.trades.specs.declared.{Trade.Trade}
 use Rattle.auction.specs.declared.{Outcome.Outcome, Outcome.the-variants.Traded, Outcome.the-variants.NoTrade, Outcome.the-variants.NonOpening, Outcome.the-variants.Delayed}
-use Rattle.trades.specs.Fills.{leftOf, tradesOf}
+use Rattle.trades.specs.TradesOf.{leftOf, tradesOf}
 
 -- the unlimited quantity taking part on a side
 abbrev pub unlimited : Side → List Resting → ℕ

@@ -21,7 +21,7 @@ use Rattle.queue.specs.Sides.{isUnlimited}
 use Rattle.queue.specs.Part.{takingPart, takingPart-elim, takingPart-distinct}
 use Rattle.queue.specs.Distinct.{Distinct}
 use Rattle.queue.specs.Rank.{onSide, ranked, ranked-elim, ranked-intro}
-use Rattle.queue.specs.Ranks.{limitRoom, numberRoom, placeOfRank, rankBound, along}
+use Rattle.queue.specs.RankNumbers.{limitRoom, numberRoom, placeOfRank, rankBound, along}
 use Rattle.fills.specs.Shares.{sumsFrom}
 use Rattle.queue.specs.Reach.{resting-sound, resting-distinct}
 use Rattle.queue.specs.Queue.{price-room, allows-below, unlimited-below, ranks-known, ranked-by-ranks}
@@ -31,8 +31,8 @@ use Rattle.price.specs.Candidates.{addLimit, limits, candidates, mostExecutable
 use Rattle.price.specs.Chain.{auctionPrice}
 use Rattle.price.specs.Search.{offered, searchedIn}
 use Rattle.price.specs.Ladder.{sum-below-front, offered-is-interest}
-use Rattle.price.specs.Searched.{searched-most, searched-price}
-use Rattle.trades.specs.Fills.{queue-left}
+use Rattle.price.specs.SearchFinds.{searched-most, searched-price}
+use Rattle.trades.specs.TradesOf.{queue-left}
 use Rattle.auction.specs.NonOpening.{unlimited-front}
 use Rattle.auction.specs.Outcome.{Held, unlimited, outcome}
 use Rattle.auction.specs.Decided.{decided}

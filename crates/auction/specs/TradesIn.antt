@@ -17,24 +17,24 @@ use Rattle.book.specs.declared.Book.{Book}
 use Rattle.places.specs.Places.{isTaken}
 use Rattle.book.specs.Columns.{valuesAt, orderAt}
 use Rattle.book.specs.Resting.{resting, changed}
-use Rattle.book.specs.Rests.{resting-elim}
+use Rattle.book.specs.ByPlace.{resting-elim}
 use Rattle.book.specs.Sound.{SoundBook}
 use Rattle.book.specs.Settling.{settled, restFrom, settled-changed}
 use Rattle.queue.specs.Part.{takingPart, takingPart-elim, takingPart-distinct}
 use Rattle.queue.specs.Sides.{sameSide-eq}
 use Rattle.queue.specs.Distinct.{Distinct}
 use Rattle.queue.specs.Rank.{ranked, ranked-elim}
-use Rattle.queue.specs.Ranks.{numberRoom, placeOfRank, along}
+use Rattle.queue.specs.RankNumbers.{numberRoom, placeOfRank, along}
 use Rattle.queue.specs.Reach.{resting-distinct}
 use Rattle.queue.specs.Queue.{ranks-known, ranked-by-ranks}
 use Rattle.fills.specs.Fill.{Fill, fill, filledBy, hasNumber, fill-all}
 use Rattle.fills.specs.Shares.{sharesOf, lessened}
-use Rattle.fills.specs.Shared.{shares-fill, fill-orders, sharedAt, lessened-at, lessened-length, shared-at-fill}
+use Rattle.fills.specs.ShareFills.{shares-fill, fill-orders, sharedAt, lessened-at, lessened-length, shared-at-fill}
 use Rattle.price.specs.Interest.{interest}
 use Rattle.trades.specs.Trades.{traded}
-use Rattle.trades.specs.Fills.{fills, tradesOf, trades-filled}
+use Rattle.trades.specs.TradesOf.{fills, tradesOf, trades-filled}
 use Rattle.auction.specs.After.{restOf}
-use Rattle.trades.specs.Fronts.{share-pairs}
+use Rattle.trades.specs.OverShares.{share-pairs}
 use Rattle.auction.specs.Ended.{ended-at, rest-from}
 use Rattle.auction.specs.Trading.{ranksOn, sharesIn, tradesIn, leftIn, restsIn}
 

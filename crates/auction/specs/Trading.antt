@@ -8,7 +8,7 @@ use Rattle.lists.specs.Ranking.{rank, Ranked, rank-ranked}
 use Rattle.terms.specs.Bounds.{places}
 use Rattle.terms.specs.declared.orders.{Side.Side, Side.the-variants.Buy, Side.the-variants.Sell, Auction.Auction}
 use Rattle.book.specs.declared.Book.{Book}
-use Rattle.queue.specs.Ranks.{rankBound, ranksFrom, along}
+use Rattle.queue.specs.RankNumbers.{rankBound, ranksFrom, along}
 use Rattle.queue.specs.Placing.{ranks-length, numbers-comparable}
 use Rattle.fills.specs.Shares.{sumsFrom, sharesOf, lessened}
 use Rattle.price.specs.Search.{sumBelow, offered, searchedIn}
@@ -17,7 +17,7 @@ use Rattle.auction.specs.declared.{Outcome.Outcome}
 use Rattle.auction.specs.Outcome.{Held}
 use Rattle.auction.specs.Decided.{outcomeFrom}
 use Rattle.auction.specs.Ended.{ended}
-use Rattle.trades.specs.Fronts.{pairedShares}
+use Rattle.trades.specs.OverShares.{pairedShares}
 
 -- the ranks of those taking part on a side of a book, best first
 abbrev pub ranksOn : Book → Auction → Side → List ℕ

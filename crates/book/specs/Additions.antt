@@ -10,9 +10,9 @@ use Rattle.terms.specs.Orders.{Resting, isLimit}
 use Rattle.book.specs.declared.Book.{Book}
 use Rattle.places.specs.Places.{isTaken}
 use Rattle.book.specs.Columns.{orderFrom, orderAt, stored, cleared}
-use Rattle.book.specs.Changes.{Sized, SameAt, stored-taken, stored-order, stored-elsewhere, cleared-free, cleared-elsewhere}
+use Rattle.book.specs.Writing.{Sized, SameAt, stored-taken, stored-order, stored-elsewhere, cleared-free, cleared-elsewhere}
 use Rattle.book.specs.Resting.{resting}
-use Rattle.book.specs.Rests.{resting-elim, resting-intro}
+use Rattle.book.specs.ByPlace.{resting-elim, resting-intro}
 use Rattle.book.specs.Sound.{SoundBook, same-or-not}
 
 -- an order at a place where two books are the same rests in both

@@ -11,9 +11,9 @@ use Rattle.terms.specs.Orders.{Resting}
 use Rattle.book.specs.declared.Book.{Book}
 use Rattle.places.specs.Places.{isTaken}
 use Rattle.book.specs.Columns.{valuesAt, valuesOf, orderFrom, orderAt, emptyValues, stored, cleared}
-use Rattle.book.specs.Changes.{Sized, SameAt, stored-taken, stored-raw, stored-order, stored-elsewhere, stored-sized, cleared-free, cleared-raw, cleared-elsewhere, cleared-sized}
+use Rattle.book.specs.Writing.{Sized, SameAt, stored-taken, stored-raw, stored-order, stored-elsewhere, stored-sized, cleared-free, cleared-raw, cleared-elsewhere, cleared-sized}
 use Rattle.book.specs.Resting.{resting, putBack, changedAt, changedTo, changed}
-use Rattle.book.specs.Rests.{resting-elim, resting-intro}
+use Rattle.book.specs.ByPlace.{resting-elim, resting-intro}
 use Rattle.book.specs.Sound.{SoundOrder, SoundBook, same-or-not, changed-sound, cleared-sound}
 
 -- what stands at a place afterwards

@@ -1,11 +1,15 @@
 -- The book: what rests at its places.
+
+-- the paper
 pub mod Columns
-pub mod Changes
 pub mod Resting
-pub mod Groups
-pub mod Rests
+-- its laws
+pub mod Writing
+pub mod ByPlace
 pub mod Sound
-pub mod Hints
 pub mod Additions
 pub mod Changed
+-- as the code computes it
+pub mod Groups
+pub mod Hints
 pub mod Settling

@@ -14,7 +14,7 @@ use Rattle.book.specs.declared.Book.{Book}
 use Rattle.places.specs.Places.{wordCount, isTaken}
 use Rattle.places.specs.Words.{zeros-free}
 use Rattle.book.specs.Columns.{valuesAt, valuesOf, orderFrom, orderAt, emptyValues, emptyBook, stored, cleared}
-use Rattle.book.specs.Changes.{Sized, SameAt, stored-taken, stored-raw, stored-order, stored-elsewhere, stored-sized, cleared-free, cleared-raw, cleared-elsewhere, cleared-sized}
+use Rattle.book.specs.Writing.{Sized, SameAt, stored-taken, stored-raw, stored-order, stored-elsewhere, stored-sized, cleared-free, cleared-raw, cleared-elsewhere, cleared-sized}
 
 -- an order that may rest: its number among those given, its other fields in range, its limit a legal price
 pub record SoundOrder (legal : ℕ → Bool) (given : ℕ) (o : Resting) : Type 0 where

@@ -20,7 +20,7 @@ use Rattle.book.specs.declared.Book.{Book}
 use Rattle.places.specs.Places.{isTaken}
 use Rattle.book.specs.Columns.{orderAt}
 use Rattle.book.specs.Resting.{resting, changed}
-use Rattle.book.specs.Rests.{resting-intro}
+use Rattle.book.specs.ByPlace.{resting-intro}
 use Rattle.book.specs.Sound.{SoundBook}
 use Rattle.book.specs.Changed.{AfterAt, changed-at, changed-resting}
 use Rattle.queue.specs.Part.{takesPart, takingPart, takingPart-elim, takingPart-intro}
@@ -31,7 +31,7 @@ use Rattle.trades.specs.declared.{Trade.Trade}
 use Rattle.auction.specs.declared.{Outcome.Outcome, Outcome.the-variants.Traded, Outcome.the-variants.NoTrade, Outcome.the-variants.NonOpening, Outcome.the-variants.Delayed}
 use Rattle.trades.specs.Trades.{party, traded, volume, TradeList}
 use Rattle.trades.specs.Pairing.{amount, paired}
-use Rattle.trades.specs.Fills.{fills, tradesOf, trades-none}
+use Rattle.trades.specs.TradesOf.{fills, tradesOf, trades-none}
 use Rattle.auction.specs.Outcome.{trades, outcomeNumber, priceAnswered, quantityAnswered, takesPlace}
 use Rattle.auction.specs.After.{remaining, ends, leaves, restOf, rest-keeps}
 use Rattle.trades.specs.Written.{quadruples, quadruples-length, tradesRead, trades-back}

@@ -14,9 +14,9 @@ use Rattle.terms.specs.declared.orders.{Entry.Entry}
 use Rattle.places.specs.Places.{isTaken, lowestFree, countTaken, total}
 use Rattle.places.specs.Words.{lowest-free-clear, lowest-free-least, count-is-taken}
 use Rattle.book.specs.Columns.{orderFrom, orderAt}
-use Rattle.book.specs.Changes.{stored-order, stored-elsewhere, cleared-elsewhere}
+use Rattle.book.specs.Writing.{stored-order, stored-elsewhere, cleared-elsewhere}
 use Rattle.book.specs.Resting.{resting, placeOf, isOf}
-use Rattle.book.specs.Rests.{place-found}
+use Rattle.book.specs.ByPlace.{place-found}
 use Rattle.book.specs.Additions.{stored-resting, cleared-resting}
 use Rattle.session.specs.declared.{Session.Session}
 use Rattle.session.specs.declared.Entered.{Entered as Returned}

@@ -2,10 +2,14 @@
 pub mod Answers
 pub mod Sequences
 pub mod Entries
-pub mod Ranks
+pub mod RankedQueues
 pub mod Prices
 pub mod Outcomes
+pub mod Delays
+pub mod LegalPrices
+pub mod Prevented
+pub mod Foreseen
 pub mod Traded
 pub mod Auctioned
-pub mod Fronts
+pub mod FilledFronts
 pub mod Files

@@ -1,13 +1,12 @@
--- The outcome that an auction's call answers: what each number means and what it changes (B9), the price (B7), Non Opening (C5); and the
--- theoretical answer foresees it (B10).
+-- The outcome that an auction's call answers: what each number means and what it changes (B9).
 use Prim.Native.Nat.{ℕ, zero, suc, _≤_}
-use mathlib.Core.Bool.{Bool, true, false, cond, not, _&&_, true≢false}
+use mathlib.Core.Bool.{Bool, true, false, cond, not}
 use mathlib.Core.Option.{Option, none, some, Option·none-ne-some, Option·some-injective}
-use mathlib.Core.Logic.{_⊎_, inl, inr, ⊎-elim, _↔_, _≢_}
+use mathlib.Core.Logic.{_⊎_, ⊎-elim, _↔_, _≢_}
 use mathlib.Core.Path.{_≡_, refl, sym, ap, subst, _∙_}
-use mathlib.Core.List.{List, [], _∷_}
+use mathlib.Core.List.{List}
 use native.Mathlib.Omega.{arith}
-use borrow.Author.Tests.{le-ltb, ltb-false}
+use borrow.Author.Tests.{ltb-false}
 use lib.Dec.{T, leb}
 use lib.ListN.{length}
 use Rattle.lists.specs.Tests.{tests, and-both, test-holds}
@@ -16,28 +15,20 @@ use Rattle.terms.specs.Orders.{auctionNumber, isAuction, auctionFrom}
 use Rattle.terms.specs.Parameters.{parametersFrom}
 use Rattle.terms.specs.declared.orders.{Auction.Auction, Auction.the-variants.Opening, Auction.the-variants.Closing, Entry.Entry}
 use Rattle.terms.specs.declared.parameters.{Start.Start}
-use Rattle.book.specs.Resting.{resting}
-use Rattle.queue.specs.Part.{takingPart-distinct}
-use Rattle.queue.specs.Reach.{resting-sound}
 use Rattle.price.specs.Interest.{executable}
 use Rattle.price.specs.Chain.{auctionPrice}
 use Rattle.auction.specs.declared.{Outcome.Outcome, Outcome.the-variants.Traded, Outcome.the-variants.NoTrade, Outcome.the-variants.NonOpening, Outcome.the-variants.Delayed}
-use Rattle.auction.specs.Outcome.{outcome, prevented, reaches, delays, priced, trades, outcomeNumber, priceAnswered, takesPlace}
-use Rattle.auction.specs.NonOpening.{Fillable, non-opening-exactly}
+use Rattle.auction.specs.Outcome.{outcome, prevented, delays, priced, trades, priceAnswered}
 use Rattle.trades.specs.Written.{written}
 use Rattle.refusals.specs.declared.phases.{Phase.the-variants.PreOpening}
-use Rattle.session.specs.declared.{Session.Session, AuctionAnswer.AuctionAnswer, Started.Started, Entered.Entered, Deleted.Deleted, Foreseen.Foreseen}
+use Rattle.session.specs.declared.{Session.Session, AuctionAnswer.AuctionAnswer, Started.Started, Entered.Entered, Deleted.Deleted}
 use Rattle.session.specs.State.{delayGiven}
 use Rattle.refusals.specs.Phases.{hasStarted, phaseAfter}
-use Rattle.refusals.specs.Checks.{firstHit, answeredBy, answered-cases, answered-done}
+use Rattle.refusals.specs.Checks.{firstHit, answered-cases, answered-done}
 use Rattle.refusals.specs.Exactly.{clear}
 use Rattle.session.specs.Entry.{startChecks, startRefused, startDone, started, orderChecks, orderRefused, orderDone, entered, deleteChecks, deleteRefused, deleteDone, deleted}
-use Rattle.session.specs.Sound.{legalPrice, Sound}
-use Rattle.session.specs.Auctions.{AuctionLeaves, part, delayable, heldBy, outcomeOf, answerOf, sessionAfter, auctionLeaves, auctionChecks, auctionRefused, auctionDone, auctioned, theoreticalChecks, theoreticalRefused, theoreticalDone, theoretical}
+use Rattle.session.specs.Auctions.{AuctionLeaves, part, heldBy, outcomeOf, answerOf, sessionAfter, auctionLeaves, auctionChecks, auctionRefused, auctionDone, auctioned}
 use Rattle.demands.specs.Answers.{auction-answer}
-use Rattle.demands.specs.Sequences.{Act, Call, acted, after, run}
-use Rattle.demands.specs.Prices.{price-is-legal}
-use Rattle.demands.specs.Traded.{sound-ranged, every-closing-takes-place}
 
 -- an auction asked for by its number is that auction
 pub auction-numbered : (a : Auction) → auctionFrom (auctionNumber a) ≡ a
@@ -99,7 +90,7 @@ pub record OutcomesInOrder (s : Session) (a : Auction) (r : AuctionAnswer) : Typ
   pub no-trades : r .outcome ≢ 1 → r .count ≡ 0
 
 -- in the order of the definition
-decided : (s : Session) (a : Auction) → OutcomesInOrder s a (answerOf (outcomeOf s a) (part s a))
+pub decided : (s : Session) (a : Auction) → OutcomesInOrder s a (answerOf (outcomeOf s a) (part s a))
 unfolding outcomeOf outcome
 decided s a = prevents (isPrevented s a) refl
   where
@@ -237,113 +228,3 @@ others-keep s = record {
   delete = λ number member.
       answered-cases (deleteChecks s number member) (deleteRefused s) (deleteDone s number member) (λ (r : Deleted). Standing s (r .session)) (λ n h i. (refl, refl, refl, refl)) (λ i. (refl, refl, refl, refl));
 }
-
--- the mark, once set, stays, and holds off another delay
-mark-stays : (s : Session) (c : Act) → s .delayed ≡ true → acted s c .delayed ≡ true
-unfolding started auctioned
-mark-stays s (Act.start x) e = answered-cases (startChecks s x) (startRefused s) (startDone s x) (λ (r : Started). r .session .delayed ≡ true) (λ n h i. e) (λ i. e)
-mark-stays s (Act.order o) e = others-keep s .order o .1 ∙ e
-mark-stays s (Act.delete number member) e = others-keep s .delete number member .1 ∙ e
-mark-stays s (Act.auction which list) e =
-    answered-cases (auctionChecks s which (length list)) (auctionRefused s list) (auctionDone s (auctionFrom which) list) (λ (l : AuctionLeaves). l .returned .session .delayed ≡ true)
-    (λ n h i. e) (λ i. outcomes (auctionFrom which) (outcomeOf s (auctionFrom which)))
-  where
-    outcomes : (a : Auction) (o : Outcome) → sessionAfter s a (part s a) o .delayed ≡ true
-    outcomes a (Traded price quantity) = e
-    outcomes a NoTrade = e
-    outcomes a NonOpening = e
-    outcomes a (Delayed price quantity) = refl
-
-marked-run : (s : Session) (cs : List Call) → s .delayed ≡ true → run s cs .delayed ≡ true
-marked-run s [] e = e
-marked-run s (Call.act c ∷ cs) e = marked-run (acted s c) cs (mark-stays s c e)
-marked-run s (Call.look l ∷ cs) e = marked-run s cs e
-
--- outcome 4 is answered by an auction that is done
-module _ (s : Session) (which : ℕ) (list : List ℕ) where
-  abbrev asked : Auction
-  asked = auctionFrom which
-
-  mark-set : auctioned s which list .returned .result .outcome ≡ 4 → auctioned s which list .returned .session .delayed ≡ true
-  unfolding auctioned
-  mark-set =
-      answered-cases (auctionChecks s which (length list)) (auctionRefused s list) (auctionDone s asked list)
-      (λ (l : AuctionLeaves). l .returned .result .outcome ≡ 4 → l .returned .session .delayed ≡ true) (λ n h e i. absurd (omega arith)) (λ e. sets (outcomeOf s asked))
-    where
-      sets : (o : Outcome) → outcomeNumber o ≡ 4 → sessionAfter s asked (part s asked) o .delayed ≡ true
-      sets (Traded price quantity) h = absurd (omega arith)
-      sets NoTrade h = absurd (omega arith)
-      sets NonOpening h = absurd (omega arith)
-      sets (Delayed price quantity) h = refl
-
-  mark-spent : s .delayed ≡ true → auctioned s which list .returned .result .outcome ≢ 4
-  unfolding auctioned
-  mark-spent marked =
-      answered-cases (auctionChecks s which (length list)) (auctionRefused s list) (auctionDone s asked list) (λ (l : AuctionLeaves). l .returned .result .outcome ≢ 4)
-      (λ n h e i. omega arith)
-      (λ e h. let (free, (p, found, delaying)) = decided s asked .delayed .0 h in spent asked (s .delayed) (s .parameters .threshold .0) (s .reference .0) p marked delaying)
-    where
-      spent : (a : Auction) (d : Bool) (threshold reference price : ℕ) → d ≡ true → T (delayable a d && reaches threshold reference price) → ⊥
-      spent Opening true threshold reference price i h = h
-      spent Opening false threshold reference price i h = true≢false (sym i)
-      spent Closing d threshold reference price i h = h
-
--- B9, once: after a Delayed Opening no call in any sequence answers outcome 4 again.
-pub delayed-once : (s : Session) (which : ℕ) (list : List ℕ) → auctioned s which list .returned .result .outcome ≡ 4
-    → (cs : List Call) (again : ℕ) (lent : List ℕ) → auctioned (run (auctioned s which list .returned .session) cs) again lent .returned .result .outcome ≢ 4
-delayed-once s which list h cs again lent =
-    mark-spent (run (auctioned s which list .returned .session) cs) again lent (marked-run (auctioned s which list .returned .session) cs (mark-set s which list h))
-
--- B7. An auction price, of outcome 1 or 4, is a price and a multiple of the step.
-pub answered-price-is-legal : (s : Session) → Sound s → (a : Auction) (list : List ℕ) → auctioned s (auctionNumber a) list .returned .answer ≡ 0
-    → (auctioned s (auctionNumber a) list .returned .result .outcome ≡ 1) ⊎ (auctioned s (auctionNumber a) list .returned .result .outcome ≡ 4)
-    → T (legalPrice s (auctioned s (auctionNumber a) list .returned .result .price))
-answered-price-is-legal s sound a list accepted which =
-    price-is-legal a (legalPrice s) (s .reference .0) (resting (s .book)) (sound .reference-holds)
-    (λ o m. resting-sound (legalPrice s) (s .given) (s .book) (sound .book-sound) o m .limit-legal)
-    (auctioned s (auctionNumber a) list .returned .result .price) (outcomes-in-order s a list accepted .priced which .0)
-
--- C5. Non Opening exactly when no trade list at any price fills every unlimited order taking part ..
-pub opening-prevented : (s : Session) → Sound s → (list : List ℕ) → auctioned s (auctionNumber Opening) list .returned .answer ≡ 0
-    → (auctioned s (auctionNumber Opening) list .returned .result .outcome ≡ 3) ↔ (Fillable (part s Opening) → ⊥)
-opening-prevented s sound list accepted =
-    let number = outcomes-in-order s Opening list accepted .non-opening in
-    let exactly = non-opening-exactly (s .reference .0) (part s Opening) (takingPart-distinct Opening (resting (s .book)) (sound-ranged s sound .distinct)) in
-    ((λ e. exactly .0 (number .0 e)), (λ no. number .1 (exactly .1 no)))
-
--- .. and a closing has outcome 1 or 2 only
-pub closing-carried-out : (s : Session) (list : List ℕ) → auctioned s (auctionNumber Closing) list .returned .answer ≡ 0
-    → (auctioned s (auctionNumber Closing) list .returned .result .outcome ≡ 1) ⊎ (auctioned s (auctionNumber Closing) list .returned .result .outcome ≡ 2)
-unfolding outcomeOf
-closing-carried-out s list accepted =
-    rw (carried-out s Closing list accepted .leaves)
-    (one-of-two (outcomeOf s Closing) (every-closing-takes-place s (s .parameters .threshold .0) (s .reference .0) (resting (s .book))))
-  where
-    one-of-two : (o : Outcome) → T (takesPlace o) → (outcomeNumber o ≡ 1) ⊎ (outcomeNumber o ≡ 2)
-    one-of-two (Traded price quantity) h = inl refl
-    one-of-two NoTrade h = inr refl
-    one-of-two NonOpening h = absurd h
-    one-of-two (Delayed price quantity) h = absurd h
-
--- on a list that is long enough the auction's checks are those of the theoretical answer
-same-checks : (s : Session) (which : ℕ) (list : List ℕ) → tradeListLength ≤ length list → firstHit (auctionChecks s which (length list)) ≡ firstHit (theoreticalChecks s which)
-unfolding firstHit
-same-checks s which list long = rw (le-ltb (length list) tradeListLength long)
-
--- B10. The theoretical answer is what the auction would answer at that moment, on any list that is long enough. It returns no session and is
--- lent no list, so that nothing changes.
-pub record Foresees (s : Session) (which : ℕ) (list : List ℕ) : Type 0 where
-  pub answer : theoretical s which .answer ≡ auctioned s which list .returned .answer
-  pub result : theoretical s which .result ≡ auctioned s which list .returned .result
-
-pub theoretical-foresees : (s : Session) (which : ℕ) (list : List ℕ) → tradeListLength ≤ length list → Foresees s which list
-unfolding theoretical auctioned
-theoretical-foresees s which list long =
-    let (answer, result) = go (firstHit (theoreticalChecks s which)) in
-    record { answer = rw (same-checks s which list long) answer; result = rw (same-checks s which list long) result }
-  where
-    go : (n : ℕ)
-        → (answeredBy n theoreticalRefused (theoreticalDone s (auctionFrom which)) .answer ≡ answeredBy n (auctionRefused s list) (auctionDone s (auctionFrom which) list) .returned .answer)
-        × (answeredBy n theoreticalRefused (theoreticalDone s (auctionFrom which)) .result ≡ answeredBy n (auctionRefused s list) (auctionDone s (auctionFrom which) list) .returned .result)
-    go zero = (refl, refl)
-    go (suc n) = (refl, refl)

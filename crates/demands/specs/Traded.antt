@@ -11,7 +11,7 @@ use Rattle.terms.specs.Bounds.{places, maxTrades}
 use Rattle.terms.specs.Orders.{Resting}
 use Rattle.terms.specs.declared.orders.{Side.Side, Auction.Auction, Auction.the-variants.Opening, Auction.the-variants.Closing}
 use Rattle.book.specs.Resting.{resting}
-use Rattle.book.specs.Rests.{resting-length}
+use Rattle.book.specs.ByPlace.{resting-length}
 use Rattle.session.specs.declared.{Session.Session}
 use Rattle.session.specs.Sound.{legalPrice, Sound}
 use Rattle.session.specs.Auctions.{heldBy}
@@ -26,7 +26,7 @@ use Rattle.trades.specs.declared.{Trade.Trade}
 use Rattle.auction.specs.declared.{Outcome.Outcome, Outcome.the-variants.Traded, Outcome.the-variants.NoTrade, Outcome.the-variants.NonOpening, Outcome.the-variants.Delayed}
 use Rattle.trades.specs.Trades.{traded, volume, TradeList, volume-le-executable}
 use Rattle.trades.specs.Pairing.{amount}
-use Rattle.trades.specs.Fills.{fills, tradesOf, trades-none, fills-amount, trades-volume, trades-possible, trades-in-order, trades-positive, traded-side, trades-count}
+use Rattle.trades.specs.TradesOf.{fills, tradesOf, trades-none, fills-amount, trades-volume, trades-possible, trades-in-order, trades-positive, traded-side, trades-count}
 use Rattle.auction.specs.Outcome.{Held, outcome, trades, priceAnswered, quantityAnswered, countAnswered, takesPlace, outcome-traded, outcome-no-trade, outcome-prevented, unheld-takes-place}
 use Rattle.auction.specs.After.{remaining}
 use Rattle.auction.specs.Left.{nothing-left}

@@ -1,6 +1,9 @@
 -- Fills: how a total is filled from the front.
+
+-- the paper
 pub mod Fill
-pub mod Shares
-pub mod Shared
 pub mod Front
 pub mod Examples
+-- as the code computes it
+pub mod Shares
+pub mod ShareFills

@@ -7,7 +7,7 @@ use native.Mathlib.Numerals.{add-one}
 use native.Mathlib.Omega.{arith}
 use lib.ListN.{length, getD, set, take, drop, drop-of-length-le}
 use lib.Seq.{take-suc, take-suc-set, take-set-le, drop-cons, append-snoc}
-use Rattle.queue.specs.Ranks.{placeOfRank}
+use Rattle.queue.specs.RankNumbers.{placeOfRank}
 
 -- the sums of the first 0, 1, 2 .. entries, on top of a total
 unfoldable pub sumsFrom : ℕ → List ℕ → List ℕ

@@ -4,7 +4,7 @@ use terms::Place;
 ghost use mathlib.Core.Path.{_≡_};
 ghost use Prim.Native.Nat.{_+_, _-_, _<_, _≤_, min};
 ghost use lib.ListN.{length, getD, take};
-ghost use Rattle.queue.specs.Ranks.{placeOfRank, along};
+ghost use Rattle.queue.specs.RankNumbers.{placeOfRank, along};
 ghost use Rattle.fills.specs.Shares.{sumsFrom, sharesOf, lessened};
 ghost use Rattle.terms.specs.Bounds.{places};
 

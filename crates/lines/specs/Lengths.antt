@@ -8,7 +8,7 @@ use Rattle.lines.specs.declared.{Word.Word, Line.Line}
 use Rattle.lines.specs.Text.{mostDigits, decimal, space, newline, numeral, numeralRoom, texts, tradeWord, faultWord, endWord}
 use Rattle.lines.specs.Decimal.{decimal-length}
 use Rattle.lines.specs.Line.{wordText, wordNumbers, numbersOf, numbers, worded, lineOf, tradeLine, tradeLines, faultLine, endLine}
-use Rattle.lines.specs.Texts.{texts-length, WroteAll}
+use Rattle.lines.specs.OneByOne.{texts-length, WroteAll}
 
 -- a word has at most so many letters, and so many numbers follow its answer
 abbrev pub mostLetters : ℕ

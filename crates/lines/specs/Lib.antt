@@ -1,10 +1,14 @@
 -- The printed lines: 01 "Session file".
+
+-- the paper
 pub mod Text
-pub mod Put
-pub mod Decimal
 pub mod Line
-pub mod Placed
-pub mod Texts
-pub mod Lengths
-pub mod Trades
 pub mod Examples
+-- its laws
+pub mod Put
+pub mod Lengths
+-- as the code computes it
+pub mod Decimal
+pub mod Placed
+pub mod OneByOne
+pub mod TradeLines

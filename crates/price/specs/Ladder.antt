@@ -15,7 +15,7 @@ use Rattle.queue.specs.Sides.{allows}
 use Rattle.queue.specs.Distinct.{Distinct}
 use Rattle.fills.specs.Fill.{none-pass, FrontPart, ranked-front}
 use Rattle.queue.specs.Rank.{onSide, ranked, ranked-sum, ranked-in-order}
-use Rattle.queue.specs.Ranks.{rankBound}
+use Rattle.queue.specs.RankNumbers.{rankBound}
 use Rattle.fills.specs.Shares.{sumsFrom}
 use Rattle.price.specs.Interest.{interest, allows-ahead}
 use Rattle.price.specs.Search.{countBelow, sumBelow, offered}

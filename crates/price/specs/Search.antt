@@ -6,7 +6,7 @@ use lib.Dec.{eqb, ltb}
 use lib.ListN.{getD}
 use Rattle.lists.specs.Sums.{apart}
 use Rattle.terms.specs.declared.orders.{Side.Side}
-use Rattle.queue.specs.Ranks.{rankBound}
+use Rattle.queue.specs.RankNumbers.{rankBound}
 use Rattle.price.specs.declared.weigh.{Weighed.Weighed}
 use Rattle.price.specs.declared.search.{Found.Found}
 

@@ -13,7 +13,7 @@ ghost use Prim.Native.Nat.{_<_};
 ghost use lib.Dec.{leb};
 ghost use lib.ListN.{length};
 ghost use Rattle.lists.specs.Ranking.{Ranked};
-ghost use Rattle.queue.specs.Ranks.{along};
+ghost use Rattle.queue.specs.RankNumbers.{along};
 ghost use Rattle.price.specs.Search.{countBelow, sumBelow, offered, weighAll, foundIn, searchedIn};
 ghost use Rattle.terms.specs.declared.orders.{Side.the-variants.Buy, Side.the-variants.Sell};
 

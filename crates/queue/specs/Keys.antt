@@ -12,7 +12,7 @@ use Rattle.terms.specs.Orders.{limitFrom}
 use Rattle.terms.specs.declared.orders.{Side.Side, Side.the-variants.Buy, Side.the-variants.Sell}
 use Rattle.queue.specs.Sides.{allows, isUnlimited}
 use Rattle.queue.specs.Rank.{betterLimit}
-use Rattle.queue.specs.Ranks.{limitRoom, numberRoom, keyRoom, priceKey, rankOf, rankBound, placeOfRank}
+use Rattle.queue.specs.RankNumbers.{limitRoom, numberRoom, keyRoom, priceKey, rankOf, rankBound, placeOfRank}
 
 -- the key of a buy's limit
 buy-key : (l : ℕ) → priceKey Buy (suc l) ≡ limitRoom - suc l

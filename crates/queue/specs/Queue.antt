@@ -24,7 +24,7 @@ use Rattle.book.specs.Sound.{SoundBook}
 use Rattle.queue.specs.Sides.{sameSide, allows, isUnlimited}
 use Rattle.queue.specs.Part.{takesPart, takingPart}
 use Rattle.queue.specs.Rank.{ahead, onSide, ranked}
-use Rattle.queue.specs.Ranks.{limitRoom, numberRoom, rankOf, rankBound, placeOfRank, standsAs, ranksFrom}
+use Rattle.queue.specs.RankNumbers.{limitRoom, numberRoom, rankOf, rankBound, placeOfRank, standsAs, ranksFrom}
 use Rattle.queue.specs.Keys.{rank-place, rank-ahead, rank-allows, rank-unlimited}
 
 -- the orders that rest at n places from one on, by place

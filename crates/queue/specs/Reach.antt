@@ -13,7 +13,7 @@ use Rattle.book.specs.declared.Book.{Book}
 use Rattle.places.specs.Places.{isTaken}
 use Rattle.book.specs.Columns.{orderAt}
 use Rattle.book.specs.Resting.{restingTo, resting}
-use Rattle.book.specs.Rests.{resting-elim}
+use Rattle.book.specs.ByPlace.{resting-elim}
 use Rattle.book.specs.Sound.{SoundOrder, SoundBook}
 use Rattle.queue.specs.Distinct.{Distinct, distinct-snoc}
 

@@ -5,7 +5,7 @@ ghost use mathlib.Core.Path.{_≡_};
 ghost use mathlib.Core.List.{_++_};
 ghost use Prim.Native.Nat.{_≤_};
 ghost use lib.ListN.{length, drop};
-ghost use Rattle.queue.specs.Ranks.{along};
+ghost use Rattle.queue.specs.RankNumbers.{along};
 
 // The numbers of a queue's orders, from the front of a list.
 pub fn list_numbers<'a>(list: &mut [u32], ranks: &'a [u64], numbers: &'a [u32; Place::COUNT])

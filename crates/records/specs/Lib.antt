@@ -1,12 +1,16 @@
 -- The session file: fields, records and the walk.
+
+-- the paper
 pub mod Fields
-pub mod Numbers
-pub mod Layout
 pub mod InRange
 pub mod Walk
+pub mod Examples
+-- its laws
+pub mod Layout
+pub mod Ends
+pub mod Pieces
+-- as the code computes it
+pub mod Numbers
 pub mod Lengths
 pub mod Reads
 pub mod Headers
-pub mod Ends
-pub mod Pieces
-pub mod Examples

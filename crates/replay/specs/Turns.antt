@@ -12,7 +12,7 @@ use Rattle.session.specs.declared.{Session.Session}
 use Rattle.session.specs.Sound.{Sound}
 use Rattle.transcript.specs.declared.{Stop.Stop, Telling.Telling}
 use Rattle.transcript.specs.Told.{TellingLeaves, tellingLeaves, told}
-use Rattle.transcript.specs.Tells.{Returned, told-returned}
+use Rattle.transcript.specs.TellLaws.{Returned, told-returned}
 use Rattle.transcript.specs.Fed.{isEnd, goFeed, fed}
 use Rattle.replay.specs.declared.{Held.Held, Run.Run}
 

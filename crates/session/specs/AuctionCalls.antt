@@ -13,13 +13,13 @@ use Rattle.terms.specs.declared.kinds.{Price.Price}
 use Rattle.terms.specs.declared.orders.{Side.Side, Side.the-variants.Buy, Side.the-variants.Sell, Auction.Auction}
 use Rattle.book.specs.declared.Book.{Book}
 use Rattle.book.specs.Resting.{resting}
-use Rattle.book.specs.Rests.{resting-length}
+use Rattle.book.specs.ByPlace.{resting-length}
 use Rattle.book.specs.Settling.{settled}
 use Rattle.queue.specs.Part.{takingPart-length}
 use Rattle.price.specs.Interest.{interest, executable-within}
 use Rattle.trades.specs.declared.{Trade.Trade}
 use Rattle.auction.specs.declared.{Outcome.Outcome, Outcome.the-variants.Traded, Outcome.the-variants.NoTrade, Outcome.the-variants.NonOpening, Outcome.the-variants.Delayed}
-use Rattle.trades.specs.Fills.{tradesOf, trades-none, trades-count}
+use Rattle.trades.specs.TradesOf.{tradesOf, trades-none, trades-count}
 use Rattle.auction.specs.Outcome.{outcome, trades, outcome-traded}
 use Rattle.auction.specs.Trading.{ranksOn, outcomeIn, tradesIn, restsIn}
 use Rattle.auction.specs.OutcomeIn.{outcome-in}

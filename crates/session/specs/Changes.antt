@@ -18,7 +18,7 @@ use Rattle.places.specs.Words.{lowest-free-room, full-none-free}
 use Rattle.book.specs.declared.Values.{Values}
 use Rattle.book.specs.Columns.{valuesOf, emptyValues, written, stored, cleared}
 use Rattle.book.specs.Resting.{placeOf, isOf, placeIn, place-in}
-use Rattle.book.specs.Rests.{any-resting}
+use Rattle.book.specs.ByPlace.{any-resting}
 use Rattle.refusals.specs.declared.phases.{Phase.Phase}
 use Rattle.refusals.specs.Checks.{Check, firstHit, answered, answered-refused, answered-done, answered-cases, answered-map, hits, passes}
 use Rattle.refusals.specs.Rows.{orderRows, orderLater, deleteRows, deleteLater}

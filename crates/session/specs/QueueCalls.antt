@@ -12,7 +12,7 @@ use Rattle.terms.specs.Bounds.{places}
 use Rattle.terms.specs.Orders.{Resting, isSide, isAuction, sideFrom, auctionFrom}
 use Rattle.terms.specs.declared.orders.{Side.Side, Auction.Auction}
 use Rattle.book.specs.Columns.{orderAt}
-use Rattle.queue.specs.Ranks.{placeOfRank, along}
+use Rattle.queue.specs.RankNumbers.{placeOfRank, along}
 use Rattle.queue.specs.Rank.{ranked}
 use Rattle.fills.specs.Front.{front, front-longest}
 use Rattle.refusals.specs.Checks.{Check, firstHit, answered-refused, answered-done, hits, passes, passes-last}

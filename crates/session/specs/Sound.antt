@@ -19,9 +19,9 @@ use Rattle.places.specs.Places.{lowestFree, countTaken}
 use Rattle.places.specs.Words.{lowest-free-room}
 use Rattle.book.specs.declared.Book.{Book}
 use Rattle.book.specs.Resting.{resting, placeOf, isOf}
-use Rattle.book.specs.Rests.{any-resting}
+use Rattle.book.specs.ByPlace.{any-resting}
 use Rattle.book.specs.Sound.{SoundOrder, SoundBook, empty-sound, stored-sound, cleared-sound}
-use Rattle.queue.specs.Ranks.{numberRoom}
+use Rattle.queue.specs.RankNumbers.{numberRoom}
 use Rattle.refusals.specs.declared.phases.{Phase.Phase, Phase.the-variants.Fresh, Phase.the-variants.PreOpening, Phase.the-variants.Day, Phase.the-variants.Closed}
 use Rattle.refusals.specs.Phases.{hasStarted}
 use Rattle.refusals.specs.Checks.{firstHit, answered-cases}

@@ -1,7 +1,10 @@
 -- Trades: 01 "Outcomes", the pairing of the two queues and the lent list.
+
+-- the paper
 pub mod Trades
 pub mod Pairing
-pub mod Fills
+pub mod TradesOf
 pub mod Written
-pub mod Fronts
+-- as the code computes it
+pub mod OverShares
 pub mod Turns

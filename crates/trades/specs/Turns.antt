@@ -12,7 +12,7 @@ use lib.ListN.{length, getD, set, drop, drop-of-length-le, length-append}
 use lib.Seq.{drop-cons, getD-drop, set-getD, append-snoc}
 use Rattle.lists.specs.Tests.{tests, decided, and-both}
 use Rattle.trades.specs.declared.{Trade.Trade, pairing.Front.Front}
-use Rattle.trades.specs.Fronts.{advancedTo, sharesLeft, numbersLeft, sharePairs, no-bought, no-sold}
+use Rattle.trades.specs.OverShares.{advancedTo, sharesLeft, numbersLeft, sharePairs, no-bought, no-sold}
 use Rattle.trades.specs.Written.{quadruples, written, wrote, written-next}
 
 -- the shares from a front on

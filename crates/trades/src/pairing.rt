@@ -9,8 +9,8 @@ ghost use lib.Dec.{ltb};
 ghost use lib.ListN.{length, getD, drop};
 ghost use Rattle.terms.specs.Bounds.{places};
 ghost use Rattle.trades.specs.Written.{quadruples, wrote};
-ghost use Rattle.queue.specs.Ranks.{along};
-ghost use Rattle.trades.specs.Fronts.{advancedTo, pairedShares};
+ghost use Rattle.queue.specs.RankNumbers.{along};
+ghost use Rattle.trades.specs.OverShares.{advancedTo, pairedShares};
 
 // Where a queue is: the share at its front, and what is left of it.
 pub struct Front {

@@ -21,7 +21,7 @@ use Rattle.transcript.specs.declared.{Stop.Stop, Front.Front}
 use Rattle.transcript.specs.Transcript.{step, stepLines, lastLines, linesFrom, printed}
 use Rattle.transcript.specs.Steps.{recordRoom}
 use Rattle.transcript.specs.Told.{frontOf, front, Standing, behind, Halt, halt, goTell, tellFrom, recordsTold, textOf, told}
-use Rattle.transcript.specs.Tells.{front-record, tell-ends, told-returned}
+use Rattle.transcript.specs.TellLaws.{front-record, tell-ends, told-returned}
 
 -- what is still to be printed of a file from a place on
 abbrev pub linesAt : Session → ℕ → List ℕ → ℕ → List ℕ

@@ -10,10 +10,10 @@ use Rattle.terms.specs.declared.orders.{Auction.Auction}
 use Rattle.trades.specs.declared.{Trade.Trade}
 use Rattle.refusals.specs.Checks.{answered-cases}
 use Rattle.book.specs.Resting.{resting}
-use Rattle.book.specs.Rests.{resting-length}
+use Rattle.book.specs.ByPlace.{resting-length}
 use Rattle.queue.specs.Part.{takingPart-length}
 use Rattle.auction.specs.declared.{Outcome.Outcome, Outcome.the-variants.Traded, Outcome.the-variants.NoTrade, Outcome.the-variants.NonOpening, Outcome.the-variants.Delayed}
-use Rattle.trades.specs.Fills.{trades-count}
+use Rattle.trades.specs.TradesOf.{trades-count}
 use Rattle.auction.specs.Outcome.{trades}
 use Rattle.session.specs.declared.{Session.Session}
 use Rattle.session.specs.Sound.{Sound, started-sound, entered-sound, deleted-sound}

@@ -16,7 +16,7 @@ use Rattle.transcript.specs.declared.{Stop.Stop, Front.Front, Stepped.St
 use Rattle.transcript.specs.Transcript.{step, stepLines}
 use Rattle.transcript.specs.Steps.{WroteStep, step-sound}
 use Rattle.transcript.specs.Told.{front, Standing, behind, halt, tellFrom, recordsTold, haltOf, lastOf, lastRoom, faults, tellingLeaves, told}
-use Rattle.transcript.specs.Tells.{front-record, tell-record, tell-stop, Within, told-within}
+use Rattle.transcript.specs.TellLaws.{front-record, tell-record, tell-stop, Within, told-within}
 
 -- the standing of the loop, its text read back from the buffer
 abbrev pub standingOf : Session → ℕ → ℕ → ℕ → List ℕ → Standing

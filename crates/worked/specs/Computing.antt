@@ -10,7 +10,7 @@ use Rattle.price.specs.Interest.{interest}
 use Rattle.price.specs.Candidates.{mostExecutable}
 use Rattle.price.specs.Chain.{auctionPrice}
 use Rattle.trades.specs.Trades.{traded}
-use Rattle.trades.specs.Fills.{fills, tradesOf}
+use Rattle.trades.specs.TradesOf.{fills, tradesOf}
 use Rattle.auction.specs.Outcome.{nonOpening, outcome}
 use Rattle.auction.specs.After.{restOf}
 use Rattle.refusals.specs.Checks.{firstHit}

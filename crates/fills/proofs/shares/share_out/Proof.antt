@@ -5,7 +5,7 @@ use mathlib.Core.List.{_++_, map}
 use native.Mathlib.Omega.{arith}
 use borrow.Author.Needs.{needs}
 use lib.ListN.{length, getD, take, drop, length-set}
-use Rattle.queue.specs.Ranks.{placeOfRank}
+use Rattle.queue.specs.RankNumbers.{placeOfRank}
 use Rattle.fills.specs.Shares.{sharesOf, shares-step, shares-stop, shares-end}
 use Rattle.fills.proofs.shares.share_out.Statement.{statement}
 use Rattle.fills.proofs.shares.share_out.Tie as tie

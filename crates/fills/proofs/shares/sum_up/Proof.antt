@@ -6,7 +6,7 @@ use native.Mathlib.Omega.{arith}
 use borrow.Author.Needs.{needs}
 use lib.ListN.{length, getD, take, drop, length-set}
 use lib.Seq.{getD-set-same}
-use Rattle.queue.specs.Ranks.{placeOfRank}
+use Rattle.queue.specs.RankNumbers.{placeOfRank}
 use Rattle.fills.specs.Shares.{sumsFrom, sums-step, sums-end}
 use Rattle.fills.proofs.shares.sum_up.Statement.{statement}
 use Rattle.fills.proofs.shares.sum_up.Tie as tie

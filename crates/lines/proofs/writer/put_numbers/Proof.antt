@@ -2,7 +2,7 @@
 use Prim.Native.Nat.{_-_, _≤_}
 use lib.ListN.{length, take}
 use Rattle.lines.specs.Text.{numeral}
-use Rattle.lines.specs.Texts.{WroteAll, all-none, numbers-next, numbers-end}
+use Rattle.lines.specs.OneByOne.{WroteAll, all-none, numbers-next, numbers-end}
 use Rattle.lines.specs.Lengths.{numbers-within}
 use borrow.Author.Needs.{needs}
 use native.Mathlib.Omega.{arith}

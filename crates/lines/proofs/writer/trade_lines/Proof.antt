@@ -3,8 +3,8 @@ use Prim.Native.Nat.{_-_, _≤_}
 use mathlib.Core.Path.{_≡_}
 use native.Mathlib.Omega.{arith}
 use borrow.Author.Needs.{needs}
-use Rattle.lines.specs.Trades.{WroteTrades, trades-within, trades-next}
-use Rattle.lines.specs.Texts.{all-none}
+use Rattle.lines.specs.TradeLines.{WroteTrades, trades-within, trades-next}
+use Rattle.lines.specs.OneByOne.{all-none}
 use Rattle.lines.specs.Line.{tradeLine}
 use Rattle.lines.proofs.writer.trade_lines.Statement.{statement}
 use Rattle.lines.proofs.writer.trade_lines.Tie as tie

@@ -1,7 +1,7 @@
 use mathlib.Core.List.{map}
 use lib.ListN.{getD}
 use borrow.Author.Needs.{needs}
-use Rattle.queue.specs.Ranks.{placeOfRank}
+use Rattle.queue.specs.RankNumbers.{placeOfRank}
 use Rattle.price.specs.Weighing.{searched-from}
 use Rattle.price.proofs.search.searched.Statement.{statement}
 use Rattle.price.proofs.search.searched.Tie as tie

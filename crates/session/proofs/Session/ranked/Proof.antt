@@ -8,7 +8,7 @@ use borrow.Author.Needs.{needs}
 use Rattle.terms.specs.Made.{side-good, side-refused, auction-good, auction-refused}
 use Rattle.terms.specs.Orders.{isSide, sideFrom, isAuction, auctionFrom}
 use Rattle.book.specs.Columns.{orderAt}
-use Rattle.queue.specs.Ranks.{placeOfRank}
+use Rattle.queue.specs.RankNumbers.{placeOfRank}
 use Rattle.queue.specs.Queue.{ranked-by-ranks}
 use Rattle.session.specs.Sound.{legalPrice, number-room}
 use Rattle.session.specs.QueueCalls.{queue-out-of-range, queue-turned-down, queue-room, queue-listed}

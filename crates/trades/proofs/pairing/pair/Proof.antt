@@ -6,7 +6,7 @@ use native.Mathlib.Omega.{arith}
 use borrow.Author.Needs.{needs}
 use lib.Dec.{ltb}
 use lib.ListN.{length, getD, length-map}
-use Rattle.queue.specs.Ranks.{placeOfRank, along}
+use Rattle.queue.specs.RankNumbers.{placeOfRank, along}
 use Rattle.trades.specs.Turns.{State, state-start, state-end, state-on, state-step}
 use Rattle.trades.proofs.pairing.pair.Statement.{statement}
 use Rattle.trades.proofs.pairing.pair.Tie as tie

@@ -3,7 +3,7 @@ use mathlib.Core.Path.{_≡_, sym, _∙_}
 use borrow.Author.Needs.{needs}
 use Rattle.records.specs.declared.{Piece.Piece}
 use Rattle.transcript.specs.Told.{front}
-use Rattle.transcript.specs.Fronts.{frontFrom, front-full, front-piece}
+use Rattle.transcript.specs.Next.{frontFrom, front-full, front-piece}
 use Rattle.transcript.proofs.tell.front.Statement.{statement}
 use Rattle.transcript.proofs.tell.front.Tie as tie
 

@@ -12,7 +12,7 @@ use Rattle.transcript.specs.declared.{Stepped.Stepped}
 use Rattle.transcript.specs.Transcript.{step}
 use Rattle.transcript.specs.Steps.{recordRoom, WroteStep, wrote-alone}
 use Rattle.transcript.specs.Doings.{quiet, does-found, wrote-as}
-use Rattle.transcript.specs.Tells.{front-record}
+use Rattle.transcript.specs.TellLaws.{front-record}
 use Rattle.transcript.specs.Underway.{Underway, underway-first, underway-next, underway-stop}
 use borrow.Author.Needs.{needs}
 use native.Mathlib.Omega.{arith}

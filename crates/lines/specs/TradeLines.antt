@@ -11,7 +11,7 @@ use Rattle.trades.specs.Written.{tradesRead}
 use Rattle.lines.specs.Line.{tradeLine}
 use Rattle.lines.specs.Lengths.{tradeRoom, trades-room}
 use Rattle.lines.specs.Put.{Wrote}
-use Rattle.lines.specs.Texts.{WroteAll, all-next}
+use Rattle.lines.specs.OneByOne.{WroteAll, all-next}
 
 -- the trade at a place of a lent list
 abbrev pub tradeAt : ℕ → List ℕ → Trade

@@ -10,7 +10,7 @@ use lib.ListN.{length, getD, set, take, length-set}
 use lib.Seq.{getD-set-same, getD-set-other}
 use Rattle.lists.specs.Sums.{_∈_, counted}
 use Rattle.terms.specs.Orders.{Resting}
-use Rattle.queue.specs.Ranks.{placeOfRank}
+use Rattle.queue.specs.RankNumbers.{placeOfRank}
 use Rattle.fills.specs.Fill.{fill, filledBy, hasNumber}
 use Rattle.fills.specs.Shares.{sharesOf, lessened}
 

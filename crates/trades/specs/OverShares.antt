@@ -5,7 +5,7 @@ use mathlib.Core.Path.{_≡_, refl, ap}
 use mathlib.Core.List.{List, [], _∷_, _++_, map}
 use lib.Dec.{eqb, leb}
 use lib.ListN.{length, getD}
-use Rattle.queue.specs.Ranks.{along}
+use Rattle.queue.specs.RankNumbers.{along}
 use Rattle.fills.specs.Fill.{Fill}
 use Rattle.trades.specs.declared.{Trade.Trade, pairing.Front.Front}
 use Rattle.trades.specs.Pairing.{rest, served, pairs, paired}
