@@ -8,7 +8,7 @@ use borrow.Author.Tests.{eqb-false}
 use lib.Dec.{eqb, leb}
 use Rattle.lists.specs.Tests.{tests, and-both, and-intro}
 use Rattle.terms.specs.Bounds.{minQuantity, maxQuantity}
-use Rattle.terms.specs.Orders.{Resting}
+use Rattle.terms.specs.Orders.{Resting, withOpen}
 use Rattle.terms.specs.declared.orders.{Auction.Auction, Auction.the-variants.Opening, Auction.the-variants.Closing, Validity.Validity, Validity.the-variants.AtOpening, Validity.the-variants.AtClose, Validity.the-variants.Day, Validity.the-variants.LaterDay}
 use Rattle.book.specs.Sound.{SoundOrder}
 use Rattle.trades.specs.declared.{Trade.Trade}
@@ -16,14 +16,7 @@ use Rattle.trades.specs.Trades.{traded}
 
 -- of an order, what it had less what the trades gave it
 abbrev pub remaining : List Trade → Resting → Resting
-remaining trades o = record {
-  number = o .number;
-  member = o .member;
-  side = o .side;
-  validity = o .validity;
-  left = o .left - traded (o .side) (o .number) trades;
-  limit = o .limit;
-}
+remaining trades o = withOpen (o .left - traded (o .side) (o .number) trades) o
 
 -- after opening, rests with validity 1 are deleted; after closing, rests with validity 1, 2 and 3
 abbrev pub ends : Auction → Validity → Bool

@@ -11,7 +11,6 @@ use terms::Entry;
 use terms::Side;
 use terms::Start;
 use terms::Validity;
-use trades::Trade;
 ghost use Prim.Native.Nat.{_≤_};
 ghost use lib.ListN.{length};
 ghost use Rattle.session.specs.Sound.{Sound};
@@ -197,7 +196,7 @@ fn main() {
     let mut bytes = [0u8; 3];
     libc::read(STDIN_FILENO, &mut bytes);
     let session = filled(size_of(bytes[0]), bytes[1]);
-    let mut list = [0u32; Trade::LIST];
+    let mut list = [0u32; Session::TRADE_LIST];
     let last = one_more(session, bytes[2], &mut list);
     let r = last.result;
     put_number(r.outcome as u64);

@@ -19,7 +19,7 @@ use Rattle.price.specs.Interest.{executable}
 use Rattle.price.specs.Chain.{auctionPrice}
 use Rattle.auction.specs.declared.{Outcome.Outcome, Outcome.the-variants.Traded, Outcome.the-variants.NoTrade, Outcome.the-variants.NonOpening, Outcome.the-variants.Delayed}
 use Rattle.auction.specs.Outcome.{outcome, prevented, delays, priced, trades, priceAnswered}
-use Rattle.trades.specs.Written.{written}
+use Rattle.trades.specs.Written.{tradesWritten}
 use Rattle.refusals.specs.declared.phases.{Phase.the-variants.PreOpening}
 use Rattle.session.specs.declared.{Session.Session, AuctionAnswer.AuctionAnswer, Started.Started, Entered.Entered, Deleted.Deleted}
 use Rattle.session.specs.State.{delayGiven}
@@ -162,7 +162,7 @@ pub record OutcomeChanges (s : Session) (a : Auction) (list : List ℕ) (l : Auc
 changes : (s : Session) (a : Auction) (list : List ℕ) → OutcomeChanges s a list (auctionDone s a list)
 changes s a list = go (outcomeOf s a)
   where
-    go : (o : Outcome) → OutcomeChanges s a list (auctionLeaves (record { answer = 0; result = answerOf o (part s a); session = sessionAfter s a (part s a) o }) (written (priceAnswered o) (trades o (part s a)) list))
+    go : (o : Outcome) → OutcomeChanges s a list (auctionLeaves (record { answer = 0; result = answerOf o (part s a); session = sessionAfter s a (part s a) o }) (tradesWritten (priceAnswered o) (trades o (part s a)) list))
     go (Traded price quantity) = record {
       traded = λ i. (refl, refl);
       no-trade = λ i. absurd (omega arith);

@@ -1,7 +1,7 @@
 -- Worked examples: lines of 01 "Session file", byte by byte.
 use mathlib.Core.Path.{_≡_, refl}
 use mathlib.Core.List.{[], _∷_}
-use Rattle.lines.specs.declared.{Word.Word}
+use Rattle.lines.specs.declared.{words.Word.Word}
 use Rattle.lines.specs.Text.{digits, decimal}
 use Rattle.lines.specs.Line.{lineOf, numberedLine, doneLine, tradeLine, faultLine, endLine}
 

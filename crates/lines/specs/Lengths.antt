@@ -4,22 +4,12 @@ use mathlib.Core.List.{List, [], _∷_, _++_}
 use native.Mathlib.Omega.{arith}
 use lib.ListN.{length, take, length-append, length-take}
 use Rattle.trades.specs.declared.{Trade.Trade}
-use Rattle.lines.specs.declared.{Word.Word, Line.Line}
+use Rattle.lines.specs.declared.{words.Word.Word, Line.Line}
 use Rattle.lines.specs.Text.{mostDigits, decimal, space, newline, numeral, numeralRoom, texts, tradeWord, faultWord, endWord}
 use Rattle.lines.specs.Decimal.{decimal-length}
-use Rattle.lines.specs.Line.{wordText, wordNumbers, numbersOf, numbers, worded, lineOf, tradeLine, tradeLines, faultLine, endLine}
+use Rattle.lines.specs.Line.{numbersOf, numbers, worded, lineOf, tradeLine, tradeLines, faultLine, endLine}
 use Rattle.lines.specs.OneByOne.{texts-length, WroteAll}
-
--- a word has at most so many letters, and so many numbers follow its answer
-abbrev pub mostLetters : ℕ
-mostLetters = 7
-
-abbrev pub mostNumbers : ℕ
-mostNumbers = 4
-
--- a word behind a space
-abbrev pub wordRoom : ℕ
-wordRoom = 1 + mostLetters
+use Rattle.lines.specs.Words.{mostNumbers, word-length, word-numbers, wordNumbers, wordRoom, wordText}
 
 -- n numbers of 64 bits, each behind a space, and the end of the line
 abbrev pub numbersRoom : ℕ → ℕ
@@ -51,18 +41,6 @@ numbers-length xs = omega (arith, length-append (texts numeral xs) (newline ∷ 
 worded-length : (place : ℕ) (word xs : List ℕ) → length (decimal place ++ worded word xs) ≤ mostDigits + (1 + length word + numbersRoom (length xs))
 worded-length place word xs =
     omega (arith, length-append (decimal place) (worded word xs), length-append (space ∷ word) (numbers xs), decimal-length place, numbers-length xs)
-
-pub word-length : (w : Word) → length (wordText w) ≤ mostLetters
-word-length Word.Start = omega arith
-word-length Word.Order = omega arith
-word-length Word.Delete = omega arith
-word-length Word.Auction = omega arith
-
-pub word-numbers : (w : Word) → wordNumbers w ≤ mostNumbers
-word-numbers Word.Start = omega arith
-word-numbers Word.Order = omega arith
-word-numbers Word.Delete = omega arith
-word-numbers Word.Auction = omega arith
 
 pub line-length : (place : ℕ) (l : Line) → length (lineOf place l) ≤ lineRoom
 line-length place l =

@@ -2,6 +2,7 @@
 
 -- the paper
 pub mod Text
+pub mod Words
 pub mod Line
 pub mod Examples
 -- its laws

@@ -3,26 +3,9 @@ use Prim.Native.Nat.{ℕ, zero, suc}
 use mathlib.Core.List.{List, [], _∷_, _++_}
 use lib.ListN.{take}
 use Rattle.trades.specs.declared.{Trade.Trade}
-use Rattle.lines.specs.declared.{Word.Word, Line.Line}
+use Rattle.lines.specs.declared.{words.Word.Word, Line.Line}
 use Rattle.lines.specs.Text.{decimal, space, newline, numeral, texts, tradeWord, faultWord, endWord}
-
--- the word of each kind of record
-abbrev pub wordText : Word → List ℕ
--- s t a r t
-wordText Word.Start = 115 ∷ 116 ∷ 97 ∷ 114 ∷ 116 ∷ []
--- o r d e r
-wordText Word.Order = 111 ∷ 114 ∷ 100 ∷ 101 ∷ 114 ∷ []
--- d e l e t e
-wordText Word.Delete = 100 ∷ 101 ∷ 108 ∷ 101 ∷ 116 ∷ 101 ∷ []
--- a u c t i o n
-wordText Word.Auction = 97 ∷ 117 ∷ 99 ∷ 116 ∷ 105 ∷ 111 ∷ 110 ∷ []
-
--- how many numbers follow its answer: an order adds the number given or 0; an auction adds the four numbers
-abbrev pub wordNumbers : Word → ℕ
-wordNumbers Word.Start = 0
-wordNumbers Word.Order = 1
-wordNumbers Word.Delete = 0
-wordNumbers Word.Auction = 4
+use Rattle.lines.specs.Words.{wordNumbers, wordText}
 
 -- numbers, each behind a space, and the end of the line
 abbrev pub numbers : List ℕ → List ℕ

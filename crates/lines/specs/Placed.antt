@@ -4,11 +4,12 @@ use mathlib.Core.Path.{_≡_, refl, subst}
 use mathlib.Core.List.{List, [], _∷_, _++_, append-assoc, append-nil}
 use native.Mathlib.Omega.{arith}
 use lib.ListN.{length, take}
-use Rattle.lines.specs.declared.{Word.Word, Line.Line}
+use Rattle.lines.specs.declared.{words.Word.Word, Line.Line}
 use Rattle.lines.specs.Text.{digit, decimal, space, newline}
-use Rattle.lines.specs.Line.{wordText, wordNumbers, numbersOf, numbers, worded, answerText, numberedLine, numberTold, doneLine}
+use Rattle.lines.specs.Line.{numbersOf, numbers, worded, answerText, numberedLine, numberTold, doneLine}
 use Rattle.lines.specs.Put.{Wrote, put-then}
 use Rattle.lines.specs.Decimal.{digits-small}
+use Rattle.lines.specs.Words.{wordText, wordNumbers}
 
 -- a word, an answer of one digit and a byte behind it
 abbrev pub short : List ℕ → ℕ → ℕ → List ℕ

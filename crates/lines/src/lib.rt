@@ -3,8 +3,10 @@ ghost use mathlib.Core.Path.{_≡_};
 ghost use Rattle.lines.specs.Line.{numberedLine};
 
 mod text;
+mod words;
 mod writer;
 
+pub use words::Word;
 pub use writer::done_line;
 pub use writer::end_line;
 pub use writer::fault_line;
@@ -25,14 +27,6 @@ const ANSWER_ROOM: usize = 1 + LETTERS + (1 + Line::NUMBERS) * NUMBER_ROOM + 1;
 pub const LINE_ROOM: usize = DIGITS + ANSWER_ROOM;
 
 pub const TRADE_ROOM: usize = 5 + 3 * NUMBER_ROOM + 1;
-
-// The word of a line: the kind of record that it is about.
-pub enum Word {
-    Start,
-    Order,
-    Delete,
-    Auction,
-}
 
 // What a record was answered: its word says how many of the numbers follow the answer.
 pub struct Line {

@@ -1,20 +1,19 @@
 // The lines that the session program prints, each written into a lent buffer from a place on (01 "Session file"; D3).
 use crate::Line;
-use crate::Word;
 use crate::text::put_byte;
 use crate::text::put_bytes;
 use crate::text::put_decimal;
 use crate::text::put_number;
+use crate::words::Word;
+use crate::words::put_word;
+use crate::words::word_numbers;
 use trades::Trade;
-ghost use mathlib.Core.Path.{_≡_};
-ghost use mathlib.Core.List.{_∷_};
 ghost use Prim.Native.Nat.{_+_, _*_, _≤_};
 ghost use lib.ListN.{length};
 ghost use Rattle.terms.specs.Bounds.{numbersPerTrade};
 ghost use Rattle.trades.specs.Written.{tradesRead};
-ghost use Rattle.lines.specs.Text.{space};
-ghost use Rattle.lines.specs.Line.{wordText, wordNumbers, numbers, answerText, lineOf, doneLine, tradeLine, tradeLines, faultLine, endLine};
-ghost use Rattle.lines.specs.Lengths.{wordRoom, numbersRoom, answerRoom, lineRoom, tradeRoom, faultRoom, endRoom};
+ghost use Rattle.lines.specs.Line.{numbers, answerText, lineOf, doneLine, tradeLine, tradeLines, faultLine, endLine};
+ghost use Rattle.lines.specs.Lengths.{numbersRoom, answerRoom, lineRoom, tradeRoom, faultRoom, endRoom};
 ghost use Rattle.lines.specs.Put.{Wrote};
 
 const NEWLINE: u8 = 10;
@@ -31,31 +30,6 @@ fn put_numbers(out: &mut [u8], at: usize, xs: &[u64]) -> usize
         i += 1;
     }
     put_byte(out, end, NEWLINE)
-}
-
-// A word behind a space. Each is a literal, so that it is a few stores.
-fn put_word(out: &mut [u8], at: usize, word: Word) -> usize
-    requires { ⌜ at + wordRoom ≤ length (now out) ⌝ }
-    ensures { λ r. ⌜ Wrote (now (out .entry)) (now (out .exit)) at r (space ∷ wordText word) ⌝ }
-{
-    match word {
-        Word::Start => put_bytes(out, at, b" start"),
-        Word::Order => put_bytes(out, at, b" order"),
-        Word::Delete => put_bytes(out, at, b" delete"),
-        Word::Auction => put_bytes(out, at, b" auction"),
-    }
-}
-
-// How many numbers follow a word's answer.
-fn word_numbers(word: Word) -> usize
-    ensures { λ r. ⌜ r ≡ wordNumbers word ⌝ }
-{
-    match word {
-        Word::Start => 0,
-        Word::Order => 1,
-        Word::Delete => 0,
-        Word::Auction => 4,
-    }
 }
 
 // What stands behind a record's place.

@@ -7,7 +7,7 @@ use lib.Dec.{leb}
 use lib.ListN.{length}
 use native.Mathlib.Omega.{arith}
 use borrow.Author.Tests.{leb-true, leb-false}
-use Rattle.records.specs.declared.{Record.Record}
+use Rattle.records.specs.declared.{kinds.Record.Record}
 use Rattle.records.specs.Walk.{Read, isFaulty, recordAt, ended, after, goOn, walkFrom}
 use Rattle.records.specs.Reads.{read-end, read-fault, read-record, good-record}
 

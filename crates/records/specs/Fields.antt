@@ -5,9 +5,12 @@ use mathlib.Core.List.{List, [], _∷_}
 use lib.Dec.{eqb}
 use lib.ListN.{getD}
 use Rattle.lists.specs.Sums.{sum}
+use Rattle.terms.specs.Kinds.{isNumber, isMember}
+use Rattle.terms.specs.Orders.{isEntry, isAuction}
+use Rattle.terms.specs.Parameters.{isStart}
 use Rattle.terms.specs.declared.orders.{Entry.Entry}
 use Rattle.terms.specs.declared.parameters.{Start.Start}
-use Rattle.records.specs.declared.{Deletion.Deletion, Record.Record}
+use Rattle.records.specs.declared.{kinds.Deletion.Deletion, kinds.Record.Record}
 
 -- the number that n bytes from a place on hold, the least byte first
 unfoldable pub number : List ℕ → ℕ → ℕ → ℕ
@@ -88,3 +91,10 @@ recordOf kind part =
     (cond (eqb kind 2) (Record.Order (orderFields part))
     (cond (eqb kind 3) (Record.Delete (deleteFields part))
     (Record.Auction (auctionField part))))
+
+-- every field of a record is in its range: the tests by which the calls answer 1 (01 "Refusals by number")
+abbrev pub inRange : Record → Bool
+inRange (Record.Start p) = isStart p
+inRange (Record.Order e) = isEntry e
+inRange (Record.Delete d) = isNumber (d .number) && isMember (d .member)
+inRange (Record.Auction which) = isAuction which

@@ -7,7 +7,7 @@ use lib.Dec.{eqb}
 use lib.ListN.{length, take, drop, getD}
 use native.Mathlib.Omega.{arith}
 use borrow.Author.Tests.{lt-leb, lt-ltb, le-ltb}
-use Rattle.records.specs.declared.{Record.Record, walk.Header.Header}
+use Rattle.records.specs.declared.{kinds.Record.Record, kinds.Header.Header}
 use Rattle.records.specs.Fields.{number, headerLength, kindLength, recordOf}
 use Rattle.records.specs.Numbers.{number-four}
 use Rattle.records.specs.Walk.{Read, lengthAt, kindAt, partAt, isHeader, isCut, recordAt}

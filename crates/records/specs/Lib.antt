@@ -2,7 +2,6 @@
 
 -- the paper
 pub mod Fields
-pub mod InRange
 pub mod Walk
 pub mod Examples
 -- its laws

@@ -9,7 +9,7 @@ use lib.Seq.{take-append-le, drop-append-le, drop-drop}
 use native.Mathlib.Omega.{arith}
 use borrow.Author.Tests.{le-ltb, lt-ltb, ltb-true, ltb-false, leb-true, leb-false}
 use Rattle.lists.specs.Tests.{neither}
-use Rattle.records.specs.declared.{Record.Record, Piece.Piece, walk.Header.Header}
+use Rattle.records.specs.declared.{kinds.Record.Record, Piece.Piece, kinds.Header.Header}
 use Rattle.records.specs.Fields.{number, headerLength, recordOf}
 use Rattle.records.specs.Numbers.{number-moved}
 use Rattle.records.specs.Lengths.{length-front}

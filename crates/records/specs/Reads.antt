@@ -7,7 +7,7 @@ use lib.Dec.{ltb}
 use lib.ListN.{length, drop}
 use borrow.Author.Tests.{le-leb, lt-leb, lt-ltb, le-ltb, ltb-false, not-false}
 use Rattle.lists.specs.Tests.{neither}
-use Rattle.records.specs.declared.{Record.Record}
+use Rattle.records.specs.declared.{kinds.Record.Record}
 use Rattle.records.specs.Fields.{headerLength, recordOf}
 use Rattle.records.specs.Lengths.{length-above}
 use Rattle.records.specs.Walk.{Read, lengthAt, kindAt, partAt, isHeader, isCut, isFaulty, recordAt}

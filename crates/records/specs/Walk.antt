@@ -4,7 +4,7 @@ use mathlib.Core.Bool.{Bool, true, false, cond, not, _||_}
 use mathlib.Core.List.{List, [], _∷_}
 use lib.Dec.{leb, ltb}
 use lib.ListN.{length, take, drop}
-use Rattle.records.specs.declared.{Record.Record as AnyRecord}
+use Rattle.records.specs.declared.{kinds.Record.Record as AnyRecord}
 use Rattle.records.specs.Fields.{number, headerLength, isLength, recordOf}
 
 abbrev pub lengthAt : List ℕ → ℕ → ℕ

@@ -12,7 +12,7 @@ use Rattle.trades.specs.declared.{Trade.Trade}
 use Rattle.auction.specs.declared.{Outcome.Outcome, Outcome.the-variants.Traded, Outcome.the-variants.NoTrade, Outcome.the-variants.NonOpening, Outcome.the-variants.Delayed}
 use Rattle.auction.specs.Outcome.{Held, outcome, trades, outcomeNumber, priceAnswered, quantityAnswered, countAnswered}
 use Rattle.auction.specs.After.{restOf}
-use Rattle.trades.specs.Written.{written}
+use Rattle.trades.specs.Written.{tradesWritten}
 use Rattle.session.specs.declared.{Session.Session, AuctionAnswer.AuctionAnswer, Auctioned.Auctioned, Foreseen.Foreseen}
 use Rattle.refusals.specs.Phases.{phaseAfter}
 use Rattle.session.specs.State.{passedOn, delayGiven}
@@ -78,7 +78,7 @@ auctionRefused s list n = record { returned = record { answer = n; result = noAn
 abbrev pub auctionDone : Session → Auction → List ℕ → AuctionLeaves
 auctionDone s a list = record {
   returned = record { answer = 0; result = answerOf (outcomeOf s a) (part s a); session = sessionAfter s a (part s a) (outcomeOf s a) };
-  list = written (priceAnswered (outcomeOf s a)) (tradesNow s a) list;
+  list = tradesWritten (priceAnswered (outcomeOf s a)) (tradesNow s a) list;
 }
 
 unfoldable pub auctioned : Session → ℕ → List ℕ → AuctionLeaves

@@ -19,6 +19,7 @@ use terms::Price;
 use terms::Side;
 use terms::SideMade;
 use terms::Start;
+use trades::Trade;
 ghost use mathlib.Core.Path.{_≡_};
 ghost use Rattle.session.specs.Entry.{started as Entry·started, entered as Entry·entered, deleted as Entry·deleted};
 ghost use Rattle.session.specs.Auctions.{auctionLeaves, auctioned as Auctions·auctioned, theoretical as Auctions·theoretical};
@@ -80,6 +81,11 @@ pub struct Queued {
 
 // The promise of each call is one equation: everything that it returns and the session after it (A1).
 impl Session {
+    // What a caller lends: an auction's list has at least so many numbers, a ranked queue's so many.
+    pub const TRADE_LIST: usize = Trade::LIST;
+
+    pub const QUEUE_LIST: usize = Place::COUNT;
+
     // A session that has not started.
     pub fn fresh() -> Session
         ensures { λ r. ⌜ r ≡ freshSession ⌝ }

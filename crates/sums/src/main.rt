@@ -5,11 +5,9 @@ use session::AuctionAnswer;
 use session::Session;
 use terms::Auction;
 use terms::Entry;
-use terms::Place;
 use terms::Side;
 use terms::Start;
 use terms::Validity;
-use trades::Trade;
 ghost use Rattle.session.specs.Sound.{Sound};
 
 const REFERENCE: u32 = 100_000;
@@ -103,7 +101,7 @@ fn opened(session: Session) -> Session
     requires { ⌜ Sound session ⌝ }
     ensures { λ r. ⌜ Sound r ⌝ }
 {
-    let mut list = [0u32; Trade::LIST];
+    let mut list = [0u32; Session::TRADE_LIST];
     held(session, Auction::OPENING, &mut list)
 }
 
@@ -175,7 +173,7 @@ fn delays() {
 fn put_resting(session: Session, side: u8)
     requires { ⌜ Sound session ⌝ }
 {
-    let mut list = [0u32; Place::COUNT];
+    let mut list = [0u32; Session::QUEUE_LIST];
     let r = session.ranked(side, Auction::CLOSING, &mut list);
     put_number(r.count as u64);
 }
@@ -187,7 +185,7 @@ fn at_close() {
     put(b"opening");
     let day = opened(session);
     put(b"closing");
-    let mut list = [0u32; Trade::LIST];
+    let mut list = [0u32; Session::TRADE_LIST];
     let closed = held(day, Auction::CLOSING, &mut list);
     put(b"resting");
     put_resting(closed, Side::BUY);
@@ -209,7 +207,7 @@ fn worked() {
     let both = bought(one, 50, 100_400);
     let three = bought(both, 50, 100_200);
     let session = sold(three, 80, 100_200);
-    let mut list = [0u32; Trade::LIST];
+    let mut list = [0u32; Session::TRADE_LIST];
     put(b"auction");
     held(session, Auction::OPENING, &mut list);
     put_trade(list[0], list[1], list[2]);

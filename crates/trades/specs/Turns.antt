@@ -13,7 +13,7 @@ use lib.Seq.{drop-cons, getD-drop, set-getD, append-snoc}
 use Rattle.lists.specs.Tests.{tests, decided, and-both}
 use Rattle.trades.specs.declared.{Trade.Trade, pairing.Front.Front}
 use Rattle.trades.specs.OverShares.{advancedTo, sharesLeft, numbersLeft, sharePairs, no-bought, no-sold}
-use Rattle.trades.specs.Written.{quadruples, written, wrote, written-next}
+use Rattle.trades.specs.Written.{quadruples, tradesWritten, wrote, written-next}
 
 -- the shares from a front on
 abbrev sharesFrom : List ℕ → Front → List ℕ
@@ -92,7 +92,7 @@ module _ (bn bq sn sq : List ℕ) where
       sell-end : s .at ≤ length sq
       pub turns : k ≤ b .at + s .at
       pub whole : done ++ pairsFrom (length bq + length sq - k) b s ≡ allPairs
-      pub holds : 4 * k ≤ length old → list ≡ written price done old
+      pub holds : 4 * k ≤ length old → list ≡ tradesWritten price done old
 
     pub state-start : State old (record { at = 0; left = getD bq 0 0 }) (record { at = 0; left = getD sq 0 0 }) 0
     state-start = record {
@@ -144,5 +144,5 @@ module _ (bn bq sn sq : List ℕ) where
                     append-snoc (st .done) t (pairsFrom (length bq + length sq - (k + 1)) b' s')
                     ∙ ap (λ (l : List Trade). st .done ++ l) (rw (ex, ey, left) (sym (one-from (length bq + length sq - (k + 1)) b s b' s' q i j numbers-b numbers-s eq tb ts)))
                     ∙ st .whole;
-                holds = λ h. en ∙ ap (wrote k (x ∷ y ∷ q ∷ price ∷ [])) (st .holds (omega arith)) ∙ ap (λ n. wrote n (x ∷ y ∷ q ∷ price ∷ []) (written price (st .done) old)) (sym (st .count)) ∙ written-next price (st .done) t old (omega (arith, st .count));
+                holds = λ h. en ∙ ap (wrote k (x ∷ y ∷ q ∷ price ∷ [])) (st .holds (omega arith)) ∙ ap (λ n. wrote n (x ∷ y ∷ q ∷ price ∷ []) (tradesWritten price (st .done) old)) (sym (st .count)) ∙ written-next price (st .done) t old (omega (arith, st .count));
               }

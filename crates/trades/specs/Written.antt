@@ -15,8 +15,8 @@ abbrev pub quadruples : ℕ → List Trade → List ℕ
 quadruples price [] = []
 quadruples price (t ∷ ts) = t .buy ∷ t .sell ∷ t .quantity ∷ price ∷ quadruples price ts
 
-abbrev pub written : ℕ → List Trade → List ℕ → List ℕ
-written price ts list = quadruples price ts ++ drop (numbersPerTrade * length ts) list
+abbrev pub tradesWritten : ℕ → List Trade → List ℕ → List ℕ
+tradesWritten price ts list = quadruples price ts ++ drop (numbersPerTrade * length ts) list
 
 -- the first k trades of a lent list, read back; fewer where the list ends before
 abbrev pub tradesRead : ℕ → List ℕ → List Trade
@@ -54,20 +54,20 @@ quadruples-append price (t ∷ ts) us = ap (λ (l : List ℕ). t .buy ∷ t .sel
 
 -- one more trade in a list that has room for it
 pub written-next : (price : ℕ) (ts : List Trade) (t : Trade) (list : List ℕ) → numbersPerTrade * (length ts + 1) ≤ length list
-    → wrote (length ts) (t .buy ∷ t .sell ∷ t .quantity ∷ price ∷ []) (written price ts list) ≡ written price (ts ++ (t ∷ [])) list
+    → wrote (length ts) (t .buy ∷ t .sell ∷ t .quantity ∷ price ∷ []) (tradesWritten price ts list) ≡ tradesWritten price (ts ++ (t ∷ [])) list
 written-next price ts t list h =
-    rw (le-leb (length ts * 4 + 4) (length (written price ts list)) (omega (arith, long)), front, back, quadruples-append price ts (t ∷ []), more)
+    rw (le-leb (length ts * 4 + 4) (length (tradesWritten price ts list)) (omega (arith, long)), front, back, quadruples-append price ts (t ∷ []), more)
   where
     q : length (quadruples price ts) ≡ numbersPerTrade * length ts
     q = quadruples-length price ts
 
-    long : length (written price ts list) ≡ length list
+    long : length (tradesWritten price ts list) ≡ length list
     long = length-append (quadruples price ts) (drop (numbersPerTrade * length ts) list) ∙ rw (length-drop (numbersPerTrade * length ts) list) (omega (arith, q))
 
-    front : take (length ts * 4) (written price ts list) ≡ quadruples price ts
+    front : take (length ts * 4) (tradesWritten price ts list) ≡ quadruples price ts
     front = take-at (quadruples price ts) (drop (numbersPerTrade * length ts) list) (length ts * 4) (omega (arith, q))
 
-    back : drop (length ts * 4 + 4) (written price ts list) ≡ drop (numbersPerTrade * length ts + 4) list
+    back : drop (length ts * 4 + 4) (tradesWritten price ts list) ≡ drop (numbersPerTrade * length ts + 4) list
     back =
         let e : length ts * 4 + 4 ≡ length (quadruples price ts) + 4 = omega (arith, q) in
         rw e (drop-append-add (quadruples price ts) (drop (numbersPerTrade * length ts) list) 4 ∙ drop-drop 4 (numbersPerTrade * length ts) list)

@@ -12,16 +12,16 @@ use borrow.Author.Tests.{ltb-true}
 use Rattle.session.specs.declared.{Session.Session}
 use Rattle.session.specs.State.{freshSession}
 use Rattle.session.specs.Sound.{Sound, fresh-sound}
-use Rattle.records.specs.declared.{Record.Record}
+use Rattle.records.specs.declared.{kinds.Record.Record}
 use Rattle.records.specs.Walk.{Walk, Read, recordAt, after, goOn, walkFrom}
 use Rattle.records.specs.Ends.{reads-suffice}
 use Rattle.records.specs.Pieces.{needsMore, settled-read, movedBy, moved-read}
 use Rattle.lines.specs.Put.{put, put-length}
-use Rattle.transcript.specs.declared.{Stop.Stop, Front.Front}
+use Rattle.transcript.specs.declared.{Stop.Stop, Next.Next}
 use Rattle.transcript.specs.Transcript.{step, stepLines, lastLines, linesFrom, printed}
 use Rattle.transcript.specs.Steps.{recordRoom}
-use Rattle.transcript.specs.Told.{frontOf, front, Standing, behind, Halt, halt, goTell, tellFrom, recordsTold, textOf, told}
-use Rattle.transcript.specs.TellLaws.{front-record, tell-ends, told-returned}
+use Rattle.transcript.specs.Told.{nextOf, nextTold, Standing, behind, Halt, halt, goTell, tellFrom, recordsTold, textOf, told}
+use Rattle.transcript.specs.TellLaws.{next-record, tell-ends, told-returned}
 
 -- what is still to be printed of a file from a place on
 abbrev pub linesAt : Session → ℕ → List ℕ → ℕ → List ℕ
@@ -109,17 +109,17 @@ read-on bytes more place true none h = ap (λ (file : List ℕ). recordAt file p
 read-on bytes more place false none h = settled-read bytes place h more
 
 -- what a front says of the whole file
-abbrev Reads : List ℕ → ℕ → Bool → ℕ → Front → Type 0
-Reads file place ended room (Front.Record r next) = recordAt file place ≡ Read.Record r next
-Reads file place ended room (Front.Stop Stop.Full) = room < recordRoom
-Reads file place ended room (Front.Stop Stop.Waits) = ended ≡ false
-Reads file place ended room (Front.Stop Stop.Fault) = recordAt file place ≡ Read.Fault
-Reads file place ended room (Front.Stop Stop.End) = recordAt file place ≡ Read.End
+abbrev Reads : List ℕ → ℕ → Bool → ℕ → Next → Type 0
+Reads file place ended room (Next.Record r next) = recordAt file place ≡ Read.Record r next
+Reads file place ended room (Next.Stop Stop.Full) = room < recordRoom
+Reads file place ended room (Next.Stop Stop.Waits) = ended ≡ false
+Reads file place ended room (Next.Stop Stop.Fault) = recordAt file place ≡ Read.Fault
+Reads file place ended room (Next.Stop Stop.End) = recordAt file place ≡ Read.End
 
-front-reads : (bytes more : List ℕ) (place : ℕ) (ended : Bool) (room : ℕ) {f : Front} → (ended ≡ true → more ≡ []) → front bytes place ended room ≡ f
+next-reads : (bytes more : List ℕ) (place : ℕ) (ended : Bool) (room : ℕ) {f : Next} → (ended ≡ true → more ≡ []) → nextTold bytes place ended room ≡ f
     → Reads (bytes ++ more) place ended room f
-front-reads bytes more place ended room none e =
-    subst (λ (f : Front). Reads (bytes ++ more) place ended room f) e
+next-reads bytes more place ended room none e =
+    subst (λ (f : Next). Reads (bytes ++ more) place ended room f) e
     (go (ltb room recordRoom) (not ended && needsMore bytes place) (recordAt bytes place) refl refl refl)
   where
     more-comes : (ended x : Bool) → not ended && x ≡ true → ended ≡ false
@@ -127,7 +127,7 @@ front-reads bytes more place ended room none e =
     more-comes false x h = refl
 
     go : (a b : Bool) (read : Read) → ltb room recordRoom ≡ a → not ended && needsMore bytes place ≡ b → recordAt bytes place ≡ read
-        → Reads (bytes ++ more) place ended room (cond a (Front.Stop Stop.Full) (cond b (Front.Stop Stop.Waits) (frontOf read)))
+        → Reads (bytes ++ more) place ended room (cond a (Next.Stop Stop.Full) (cond b (Next.Stop Stop.Waits) (nextOf read)))
     go true b read p w q = ltb-true room recordRoom p
     go false true read p w q = more-comes ended (needsMore bytes place) w
     go false false (Read.Record r next) p w q = read-on bytes more place ended none w ∙ q
@@ -151,10 +151,10 @@ said h rest = textOf h ++ laterOf (h .stop) (linesAt (h .standing .session) (h .
 
 module _ (room : ℕ) (ended : Bool) (bytes more : List ℕ) (none : ended ≡ true → more ≡ []) where
   -- a record moves its lines from what is to come into the text
-  say-record : (t : Standing) (r : Record) (next : ℕ) → front bytes (t .place) ended (room - length (t .text)) ≡ Front.Record r next
+  say-record : (t : Standing) (r : Record) (next : ℕ) → nextTold bytes (t .place) ended (room - length (t .text)) ≡ Next.Record r next
       → toSay t (bytes ++ more) ≡ toSay (behind t r next) (bytes ++ more)
   say-record t r next e =
-      let q : recordAt (bytes ++ more) (t .place) ≡ Read.Record r next = front-reads bytes more (t .place) ended (room - length (t .text)) none e in
+      let q : recordAt (bytes ++ more) (t .place) ≡ Read.Record r next = next-reads bytes more (t .place) ended (room - length (t .text)) none e in
       ap (λ (l : List ℕ). t .text ++ l) (lines-read (t .session) (t .answered) (bytes ++ more) (t .place) q)
       ∙ sym (append-assoc (t .text) (stepLines (suc (t .answered)) (step (t .session) r)) (linesAt (step (t .session) r .session) (suc (t .answered)) (bytes ++ more) next))
 
@@ -162,15 +162,15 @@ module _ (room : ℕ) (ended : Bool) (bytes more : List ℕ) (none : ended ≡ t
   say-later t h =
       rw (append-nil (t .text), ← drop-append-le (t .place) bytes more h) (ap (λ (l : List ℕ). t .text ++ l) (lines-moved (t .session) (t .answered) (bytes ++ more) (t .place)))
 
-  say-stop : (t : Standing) (why : Stop) → t .place ≤ length bytes → front bytes (t .place) ended (room - length (t .text)) ≡ Front.Stop why
+  say-stop : (t : Standing) (why : Stop) → t .place ≤ length bytes → nextTold bytes (t .place) ended (room - length (t .text)) ≡ Next.Stop why
       → toSay t (bytes ++ more) ≡ said (halt t why) (drop (t .place) bytes ++ more)
   say-stop t Stop.Full h e = say-later t h
   say-stop t Stop.Waits h e = say-later t h
   say-stop t Stop.Fault h e =
-      let q : recordAt (bytes ++ more) (t .place) ≡ Read.Fault = front-reads bytes more (t .place) ended (room - length (t .text)) none e in
+      let q : recordAt (bytes ++ more) (t .place) ≡ Read.Fault = next-reads bytes more (t .place) ended (room - length (t .text)) none e in
       ap (λ (l : List ℕ). t .text ++ l) (lines-read (t .session) (t .answered) (bytes ++ more) (t .place) q) ∙ sym (append-nil (t .text ++ lastLines (t .answered) true))
   say-stop t Stop.End h e =
-      let q : recordAt (bytes ++ more) (t .place) ≡ Read.End = front-reads bytes more (t .place) ended (room - length (t .text)) none e in
+      let q : recordAt (bytes ++ more) (t .place) ≡ Read.End = next-reads bytes more (t .place) ended (room - length (t .text)) none e in
       ap (λ (l : List ℕ). t .text ++ l) (lines-read (t .session) (t .answered) (bytes ++ more) (t .place) q) ∙ sym (append-nil (t .text ++ lastLines (t .answered) false))
 
   -- from any standing
@@ -179,7 +179,7 @@ module _ (room : ℕ) (ended : Bool) (bytes more : List ℕ) (none : ended ≡ t
   tell-says n t h =
       tell-ends room ended bytes (λ u. (u .place ≤ length bytes) × (toSay t (bytes ++ more) ≡ toSay u (bytes ++ more)))
       (λ h. toSay t (bytes ++ more) ≡ said h (drop (h .standing .place) bytes ++ more))
-      (λ u r next g e. (front-record bytes (u .place) ended (room - length (u .text)) e .1, g .1 ∙ say-record u r next e))
+      (λ u r next g e. (next-record bytes (u .place) ended (room - length (u .text)) e .1, g .1 ∙ say-record u r next e))
       (λ u why g e. g .1 ∙ say-stop u why (g .0) e)
       (λ u g. g .1 ∙ say-later u (g .0))
       n t (h, refl)
@@ -194,7 +194,7 @@ told-says room ended bytes s answered more none =
 told-waits : (room : ℕ) (ended : Bool) (bytes : List ℕ) (s : Session) (answered : ℕ) → recordsTold room ended bytes s answered .stop ≡ Stop.Waits → ended ≡ false
 told-waits room ended bytes s answered =
     tell-ends room ended bytes (λ u. Unit {0}) (λ h. h .stop ≡ Stop.Waits → ended ≡ false) (λ u r next g e. tt)
-    (λ u why g e w. front-reads bytes [] (u .place) ended (room - length (u .text)) (λ x. refl) (e ∙ ap Front.Stop w))
+    (λ u why g e w. next-reads bytes [] (u .place) ended (room - length (u .text)) (λ x. refl) (e ∙ ap Next.Stop w))
     (λ u g w. let z : _≡_ {A = ℕ} 0 1 = cc in absurd (omega arith))
     (suc (length bytes)) (record { session = s; answered = answered; place = 0; text = [] }) tt
 
@@ -202,21 +202,21 @@ told-waits room ended bytes s answered =
 told-headway : (room : ℕ) (ended : Bool) (bytes : List ℕ) (s : Session) (answered : ℕ) → recordRoom ≤ room
     → recordsTold room ended bytes s answered .stop ≡ Stop.Full → 0 < recordsTold room ended bytes s answered .standing .place
 unfolding tellFrom
-told-headway room ended bytes s answered h = go (front bytes 0 ended (room - 0)) refl where
+told-headway room ended bytes s answered h = go (nextTold bytes 0 ended (room - 0)) refl where
   start : Standing
   start = record { session = s; answered = answered; place = 0; text = [] }
 
   onward : (t : Standing) → 0 < t .place → 0 < tellFrom (length bytes) room ended bytes t .standing .place
   onward t g =
       tell-ends room ended bytes (λ u. 0 < u .place) (λ h. 0 < h .standing .place)
-      (λ u r next k e. let b = front-record bytes (u .place) ended (room - length (u .text)) e in omega arith)
+      (λ u r next k e. let b = next-record bytes (u .place) ended (room - length (u .text)) e in omega arith)
       (λ u why k e. k) (λ u k. k) (length bytes) t g
 
-  go : (f : Front) → front bytes 0 ended (room - 0) ≡ f → goTell f start (tellFrom (length bytes) room ended bytes) .stop ≡ Stop.Full
+  go : (f : Next) → nextTold bytes 0 ended (room - 0) ≡ f → goTell f start (tellFrom (length bytes) room ended bytes) .stop ≡ Stop.Full
       → 0 < goTell f start (tellFrom (length bytes) room ended bytes) .standing .place
-  go (Front.Record r next) e w = onward (behind start r next) (front-record bytes 0 ended (room - 0) e .0)
-  go (Front.Stop why) e w =
-      let full : room - 0 < recordRoom = front-reads bytes [] 0 ended (room - 0) (λ x. refl) (e ∙ ap Front.Stop w) in
+  go (Next.Record r next) e w = onward (behind start r next) (next-record bytes 0 ended (room - 0) e .0)
+  go (Next.Stop why) e w =
+      let full : room - 0 < recordRoom = next-reads bytes [] 0 ended (room - 0) (λ x. refl) (e ∙ ap Next.Stop w) in
       absurd (omega arith)
 
 -- what was written from the front on is read back

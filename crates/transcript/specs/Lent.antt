@@ -13,7 +13,7 @@ use Rattle.trades.specs.Written.{tradesRead, trades-back}
 use Rattle.session.specs.declared.{Session.Session, Auctioned.Auctioned}
 use Rattle.refusals.specs.Checks.{Check, firstHit, answeredBy, answered, answered-cases}
 use Rattle.session.specs.Auctions.{AuctionLeaves, outcomeOf, tradesNow, auctionChecks, auctionLeaves, auctionRefused, auctionDone, auctioned}
-use Rattle.records.specs.declared.{Record.Record}
+use Rattle.records.specs.declared.{kinds.Record.Record}
 use Rattle.transcript.specs.Transcript.{Step, step, auctionStep, lent, tradesAnswered}
 use Rattle.transcript.specs.Steps.{trades-few}
 

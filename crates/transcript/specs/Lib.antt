@@ -7,7 +7,6 @@ pub mod Worked
 pub mod Steps
 pub mod Fed
 -- as the code computes it
-pub mod Doings
 pub mod Lent
 pub mod Told
 pub mod Next

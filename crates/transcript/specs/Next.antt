@@ -11,25 +11,25 @@ use Rattle.records.specs.declared.{Piece.Piece}
 use Rattle.records.specs.Pieces.{needsMore, pieceOf, pieceAt}
 use Rattle.lines.specs.Line.{faultLine, endLine}
 use Rattle.lines.specs.Put.{Wrote, put-then}
-use Rattle.transcript.specs.declared.{Stop.Stop, Front.Front}
+use Rattle.transcript.specs.declared.{Stop.Stop, Next.Next}
 use Rattle.transcript.specs.Steps.{recordRoom}
-use Rattle.transcript.specs.Told.{frontOf, front, lastOf}
+use Rattle.transcript.specs.Told.{nextOf, nextTold, lastOf}
 
 -- what stands at a place of a piece, as what is told next
-abbrev pub frontFrom : Piece → Front
-frontFrom (Piece.Record r next) = Front.Record r next
-frontFrom Piece.Waits = Front.Stop Stop.Waits
-frontFrom Piece.Fault = Front.Stop Stop.Fault
-frontFrom Piece.End = Front.Stop Stop.End
+abbrev pub nextFrom : Piece → Next
+nextFrom (Piece.Record r next) = Next.Record r next
+nextFrom Piece.Waits = Next.Stop Stop.Waits
+nextFrom Piece.Fault = Next.Stop Stop.Fault
+nextFrom Piece.End = Next.Stop Stop.End
 
 module _ (bytes : List ℕ) (place : ℕ) (ended : Bool) {room : ℕ} where
-  pub front-full : room < recordRoom → Front.Stop Stop.Full ≡ front bytes place ended room
-  front-full h = rw (lt-ltb _ _ h)
+  pub next-full : room < recordRoom → Next.Stop Stop.Full ≡ nextTold bytes place ended room
+  next-full h = rw (lt-ltb _ _ h)
 
-  pub front-piece : recordRoom ≤ room → {p : Piece} → p ≡ pieceAt bytes place ended → frontFrom p ≡ front bytes place ended room
+  pub next-piece : recordRoom ≤ room → {p : Piece} → p ≡ pieceAt bytes place ended → nextFrom p ≡ nextTold bytes place ended room
   unfolding pieceAt
-  front-piece h e = rw (e, le-ltb _ _ h) (go (not ended && needsMore bytes place) (recordAt bytes place)) where
-    go : (b : Bool) (read : Read) → frontFrom (cond b Piece.Waits (pieceOf read)) ≡ cond b (Front.Stop Stop.Waits) (frontOf read)
+  next-piece h e = rw (e, le-ltb _ _ h) (go (not ended && needsMore bytes place) (recordAt bytes place)) where
+    go : (b : Bool) (read : Read) → nextFrom (cond b Piece.Waits (pieceOf read)) ≡ cond b (Next.Stop Stop.Waits) (nextOf read)
     go true read = refl
     go false (Read.Record r next) = refl
     go false Read.Fault = refl

@@ -5,27 +5,27 @@ use mathlib.Core.List.{List, [], _++_}
 use lib.Dec.{ltb}
 use lib.ListN.{length, take}
 use Rattle.session.specs.declared.{Session.Session}
-use Rattle.records.specs.declared.{Record.Record}
+use Rattle.records.specs.declared.{kinds.Record.Record}
 use Rattle.records.specs.Walk.{Read, recordAt}
 use Rattle.records.specs.Pieces.{needsMore}
 use Rattle.lines.specs.Lengths.{lineRoom}
 use Rattle.lines.specs.Put.{put}
-use Rattle.transcript.specs.declared.{Stop.Stop, Front.Front, Telling.Telling}
+use Rattle.transcript.specs.declared.{Stop.Stop, Next.Next, Telling.Telling}
 use Rattle.transcript.specs.Transcript.{step, stepLines, lastLines}
 use Rattle.transcript.specs.Steps.{recordRoom}
 
-abbrev pub frontOf : Read → Front
-frontOf (Read.Record r next) = Front.Record r next
-frontOf Read.Fault = Front.Stop Stop.Fault
-frontOf Read.End = Front.Stop Stop.End
+abbrev pub nextOf : Read → Next
+nextOf (Read.Record r next) = Next.Record r next
+nextOf Read.Fault = Next.Stop Stop.Fault
+nextOf Read.End = Next.Stop Stop.End
 
 -- what is told next: nothing where there is no room for any record's lines, or where more bytes are to come and what stands there can't be told
 -- without them
-abbrev pub front : List ℕ → ℕ → Bool → ℕ → Front
-front bytes place ended room =
-    cond (ltb room recordRoom) (Front.Stop Stop.Full)
-    (cond (not ended && needsMore bytes place) (Front.Stop Stop.Waits)
-    (frontOf (recordAt bytes place)))
+abbrev pub nextTold : List ℕ → ℕ → Bool → ℕ → Next
+nextTold bytes place ended room =
+    cond (ltb room recordRoom) (Next.Stop Stop.Full)
+    (cond (not ended && needsMore bytes place) (Next.Stop Stop.Waits)
+    (nextOf (recordAt bytes place)))
 
 -- where a telling stands: the session, the records answered, the place in the bytes, and the text so far
 pub record Standing : Type 0 where
@@ -51,14 +51,14 @@ pub record Halt : Type 0 where
 abbrev pub halt : Standing → Stop → Halt
 halt t why = record { standing = t; stop = why }
 
-abbrev pub goTell : Front → Standing → (Standing → Halt) → Halt
-goTell (Front.Stop why) t later = halt t why
-goTell (Front.Record r next) t later = later (behind t r next)
+abbrev pub goTell : Next → Standing → (Standing → Halt) → Halt
+goTell (Next.Stop why) t later = halt t why
+goTell (Next.Record r next) t later = later (behind t r next)
 
 -- at most n records
 unfoldable pub tellFrom : ℕ → ℕ → Bool → List ℕ → Standing → Halt
 tellFrom zero room ended bytes t = halt t Stop.Full
-tellFrom (suc n) room ended bytes t = goTell (front bytes (t .place) ended (room - length (t .text))) t (tellFrom n room ended bytes)
+tellFrom (suc n) room ended bytes t = goTell (nextTold bytes (t .place) ended (room - length (t .text))) t (tellFrom n room ended bytes)
 
 -- from the front of the bytes on; they have fewer records than bytes
 abbrev pub recordsTold : ℕ → Bool → List ℕ → Session → ℕ → Halt

@@ -11,9 +11,9 @@ use Rattle.session.specs.State.{freshSession}
 use Rattle.session.specs.Entry.{started, entered, deleted}
 use Rattle.session.specs.Auctions.{auctionChecks, auctioned, tradesNow}
 use Rattle.refusals.specs.Checks.{answered}
-use Rattle.records.specs.declared.{Record.Record}
+use Rattle.records.specs.declared.{kinds.Record.Record}
 use Rattle.records.specs.Walk.{walk}
-use Rattle.lines.specs.declared.{Word.Word, Line.Line}
+use Rattle.lines.specs.declared.{words.Word.Word, Line.Line}
 use Rattle.lines.specs.Line.{numberedLine, lineOf, tradeLines, faultLine, endLine}
 
 -- what a record does: the session after it, what its line says, and its trades

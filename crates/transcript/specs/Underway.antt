@@ -10,13 +10,13 @@ use lib.ListN.{length, take, length-append}
 use lib.Seq.{length-take-le, take-at}
 use Rattle.session.specs.declared.{Session.Session}
 use Rattle.session.specs.Sound.{Sound}
-use Rattle.records.specs.declared.{Record.Record}
+use Rattle.records.specs.declared.{kinds.Record.Record}
 use Rattle.lines.specs.Put.{put, Wrote, put-append, put-nothing, put-room}
-use Rattle.transcript.specs.declared.{Stop.Stop, Front.Front, Stepped.Stepped, Telling.Telling}
+use Rattle.transcript.specs.declared.{Stop.Stop, Next.Next, Stepped.Stepped, Telling.Telling}
 use Rattle.transcript.specs.Transcript.{step, stepLines}
 use Rattle.transcript.specs.Steps.{WroteStep, step-sound}
-use Rattle.transcript.specs.Told.{front, Standing, behind, halt, tellFrom, recordsTold, haltOf, lastOf, lastRoom, faults, tellingLeaves, told}
-use Rattle.transcript.specs.TellLaws.{front-record, tell-record, tell-stop, Within, told-within}
+use Rattle.transcript.specs.Told.{nextTold, Standing, behind, halt, tellFrom, recordsTold, haltOf, lastOf, lastRoom, faults, tellingLeaves, told}
+use Rattle.transcript.specs.TellLaws.{next-record, tell-record, tell-stop, Within, told-within}
 
 -- the standing of the loop, its text read back from the buffer
 abbrev pub standingOf : Session → ℕ → ℕ → ℕ → List ℕ → Standing
@@ -53,11 +53,11 @@ module _ (ended : Bool) (bytes out₀ : List ℕ) (s₀ : Session) (answered₀ 
     room : length out₀ - length (take at out) ≡ length out - at
     room = omega (arith, u .as-long, length-take-le at out (u .at-within))
 
-    seen : {f : Front} → f ≡ front bytes place ended (length out - at) → front bytes place ended (length out₀ - length (take at out)) ≡ f
-    seen e = ap (front bytes place ended) room ∙ sym e
+    seen : {f : Next} → f ≡ nextTold bytes place ended (length out - at) → nextTold bytes place ended (length out₀ - length (take at out)) ≡ f
+    seen e = ap (nextTold bytes place ended) room ∙ sym e
 
     -- a record whose lines are written
-    pub underway-next : {r : Record} {next : ℕ} → Front.Record r next ≡ front bytes place ended (length out - at) → {done : Stepped} {out′ : List ℕ}
+    pub underway-next : {r : Record} {next : ℕ} → Next.Record r next ≡ nextTold bytes place ended (length out - at) → {done : Stepped} {out′ : List ℕ}
         → WroteStep (answered + 1) out out′ at done (step s r) → length out′ ≡ length out → Underway ended bytes out₀ s₀ answered₀ (done .session) (answered + 1) next (done .at) out′
     underway-next {r} {next} e {done} {out′} (same, (end, new)) long = record {
       sound = rw same (step-sound s r (u .sound));
@@ -75,7 +75,7 @@ module _ (ended : Bool) (bytes out₀ : List ℕ) (s₀ : Session) (answered₀ 
         lines = stepLines (answered + 1) (step s r)
 
         onward : (place < next) × (next ≤ length bytes)
-        onward = let f = front-record bytes place ended (length out - at) (sym e) in (f .0, f .1)
+        onward = let f = next-record bytes place ended (length out - at) (sym e) in (f .0, f .1)
 
         size : 0 + length (take at out) ≡ at
         size = omega (arith, length-take-le at out (u .at-within))
@@ -86,7 +86,7 @@ module _ (ended : Bool) (bytes out₀ : List ℕ) (s₀ : Session) (answered₀ 
         text : take (done .at) out′ ≡ take at out ++ lines
         text = rw (end, new) (text-behind out at lines (u .at-within))
 
-    pub underway-stop : {why : Stop} → Front.Stop why ≡ front bytes place ended (length out - at)
+    pub underway-stop : {why : Stop} → Next.Stop why ≡ nextTold bytes place ended (length out - at)
         → halt (standingOf s answered place at out) why ≡ recordsTold (length out₀) ended bytes s₀ answered₀
     underway-stop e = sym (tell-stop (length bytes - place) (length out₀) ended bytes (standingOf s answered place at out) (seen e)) ∙ u .leads-on
 

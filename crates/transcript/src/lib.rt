@@ -25,7 +25,7 @@ pub enum Stop {
 }
 
 // What is told next: a record and the place behind it, or nothing.
-pub enum Front {
+pub enum Next {
     Record(Record, usize),
     Stop(Stop),
 }

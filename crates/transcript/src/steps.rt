@@ -23,13 +23,12 @@ ghost use mathlib.Core.Path.{_≡_};
 ghost use Prim.Native.Nat.{_+_, _≤_};
 ghost use lib.ListN.{length};
 ghost use Rattle.terms.specs.Bounds.{tradeListLength};
-ghost use Rattle.records.specs.declared.Record.the-variants.{Start as Start·record, Auction as Auction·record};
+ghost use Rattle.records.specs.declared.kinds.Record.the-variants.{Start as Start·record, Auction as Auction·record};
 ghost use Rattle.book.specs.Hints.{Numbered};
 ghost use Rattle.session.specs.Sound.{Sound};
 ghost use Rattle.lines.specs.Lengths.{lineRoom};
 ghost use Rattle.transcript.specs.Transcript.{auctionLine, step};
-ghost use Rattle.transcript.specs.Steps.{recordRoom, WroteStep};
-ghost use Rattle.transcript.specs.Doings.{orderDoing, deleteDoing, doingOf};
+ghost use Rattle.transcript.specs.Steps.{recordRoom, WroteStep, orderDoing, deleteDoing, doingOf};
 
 fn order_doing(effect: Effect) -> Doing
     ensures { λ r. ⌜ r ≡ orderDoing effect ⌝ }

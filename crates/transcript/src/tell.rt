@@ -1,6 +1,6 @@
 // The telling: the records of the bytes at hand answered one by one, their lines written into a lent buffer.
 use crate::Doing;
-use crate::Front;
+use crate::Next;
 use crate::Stop;
 use crate::Telling;
 use crate::steps::auction_written;
@@ -33,22 +33,22 @@ ghost use mathlib.Core.Bool.{true};
 ghost use Rattle.session.specs.State.{freshSession};
 ghost use Rattle.session.specs.Sound.{Sound};
 ghost use Rattle.lines.specs.Put.{Wrote, put};
-ghost use Rattle.transcript.specs.Told.{front as Told·front, recordsTold, haltOf, lastOf, lastRoom, faults, tellingLeaves, told as Told·told};
+ghost use Rattle.transcript.specs.Told.{nextTold as Told·nextTold, recordsTold, haltOf, lastOf, lastRoom, faults, tellingLeaves, told as Told·told};
 
 const RECORD_ROOM: usize = LINE_ROOM + TRADE_ROOM * Trade::MOST;
 
-fn front(bytes: &[u8], place: usize, ended: bool, room: usize) -> Front
-    ensures { λ r. ⌜ r ≡ Told·front (now (bytes .entry)) place ended room ⌝ }
+fn next_told(bytes: &[u8], place: usize, ended: bool, room: usize) -> Next
+    ensures { λ r. ⌜ r ≡ Told·nextTold (now (bytes .entry)) place ended room ⌝ }
 {
     if room < RECORD_ROOM {
-        return Front::Stop(Stop::Full);
+        return Next::Stop(Stop::Full);
     }
     let piece = read_at(bytes, place, ended);
     match piece {
-        Piece::Record(record, next) => Front::Record(record, next),
-        Piece::Waits => Front::Stop(Stop::Waits),
-        Piece::Fault => Front::Stop(Stop::Fault),
-        Piece::End => Front::Stop(Stop::End),
+        Piece::Record(record, next) => Next::Record(record, next),
+        Piece::Waits => Next::Stop(Stop::Waits),
+        Piece::Fault => Next::Stop(Stop::Fault),
+        Piece::End => Next::Stop(Stop::End),
     }
 }
 
@@ -75,9 +75,9 @@ fn records_told(
         // Read here, so that nothing stands between a record and what it does.
         let phase = present.phase;
         let parameters = present.parameters;
-        let next = front(bytes, place, ended, out.len() - at);
+        let next = next_told(bytes, place, ended, out.len() - at);
         match next {
-            Front::Record(record, behind) => {
+            Next::Record(record, behind) => {
                 count += 1;
                 place = behind;
                 let doing = doing_of(
@@ -123,7 +123,7 @@ fn records_told(
                     }
                 }
             }
-            Front::Stop(stop) => {
+            Next::Stop(stop) => {
                 return Telling {
                     session: present,
                     answered: count,
@@ -157,7 +157,7 @@ pub fn told(session: Session, answered: u64, bytes: &[u8], ended: bool, out: &mu
     requires { ⌜ Sound session × (answered + length (now bytes) < 2 ^ 64) ⌝ }
     ensures { λ r. ⌜ tellingLeaves r (now (out .exit)) ≡ Told·told session answered (now (bytes .entry)) ended (now (out .entry)) ⌝ }
 {
-    let mut list = [0u32; Trade::LIST];
+    let mut list = [0u32; Session::TRADE_LIST];
     let r = records_told(session, answered, bytes, ended, &mut list, out);
     let stop = r.stop;
     let later = r.session;

@@ -1,8 +1,8 @@
 -- The place; then the word with its 0, and an order's number, or what any other line has.
 use mathlib.Core.List.{[], _∷_}
-use Rattle.lines.specs.declared.{Word.Word}
+use Rattle.lines.specs.declared.{words.Word.Word}
 use Rattle.lines.specs.Text.{decimal}
-use Rattle.lines.specs.Line.{wordText, worded, answerText, doneLine}
+use Rattle.lines.specs.Line.{worded, answerText, doneLine}
 use Rattle.lines.specs.Put.{put-then}
 use Rattle.lines.specs.Decimal.{decimal-length}
 use Rattle.lines.specs.Placed.{short-then, numbered-then, done-then}
@@ -10,6 +10,7 @@ use native.Mathlib.Omega.{arith}
 use borrow.Author.Needs.{needs}
 use Rattle.lines.proofs.writer.done_line.Statement.{statement}
 use Rattle.lines.proofs.writer.done_line.Tie as tie
+use Rattle.lines.specs.Words.{wordText}
 
 put-decimal-requires : tie.Need-put-decimal-requires
 put-decimal-requires c κs = search needs

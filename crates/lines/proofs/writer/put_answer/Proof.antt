@@ -3,10 +3,10 @@ use Prim.Native.Nat.{_≤_}
 use native.Mathlib.Omega.{arith}
 use borrow.Author.Needs.{needs}
 use lib.ListN.{length-take}
-use Rattle.lines.specs.Lengths.{word-length, mostNumbers, word-numbers}
 use Rattle.lines.specs.Placed.{answered-then}
 use Rattle.lines.proofs.writer.put_answer.Statement.{statement}
 use Rattle.lines.proofs.writer.put_answer.Tie as tie
+use Rattle.lines.specs.Words.{word-length, mostNumbers, word-numbers}
 
 few : (c : tie.After-word-numbers) → c .word-numbers .result ≤ mostNumbers
 few c = omega (arith, c .word-numbers .ensures, word-numbers (c .before .before .args .line .word))

@@ -10,9 +10,8 @@ use Rattle.lines.specs.Line.{numberedLine, doneLine}
 use Rattle.session.specs.Changes.{changed}
 use Rattle.transcript.specs.declared.{Stepped.Stepped}
 use Rattle.transcript.specs.Transcript.{step}
-use Rattle.transcript.specs.Steps.{recordRoom, WroteStep, wrote-alone}
-use Rattle.transcript.specs.Doings.{quiet, does-found, wrote-as}
-use Rattle.transcript.specs.TellLaws.{front-record}
+use Rattle.transcript.specs.Steps.{recordRoom, WroteStep, wrote-alone, quiet, does-found, wrote-as}
+use Rattle.transcript.specs.TellLaws.{next-record}
 use Rattle.transcript.specs.Underway.{Underway, underway-first, underway-next, underway-stop}
 use borrow.Author.Needs.{needs}
 use native.Mathlib.Omega.{arith}
@@ -44,7 +43,7 @@ onward : (c : tie.After-known-told Inv-loop μ-loop) → let l = turn c .loop in
 onward c =
     let a = begun (turn c) .args in
     let l = turn c .loop in
-    let f = front-record (a .bytes .now) (l .place) (a .ended) (length (l .out) - l .at) (sym (c .before .before .before .front .ensures) ∙ c .before .next .given .1) in
+    let f = next-record (a .bytes .now) (l .place) (a .ended) (length (l .out) - l .at) (sym (c .before .before .before .next-told .ensures) ∙ c .before .next .given .1) in
     (f .0, f .1, f .2)
 
 -- a record whose lines are written
@@ -54,7 +53,7 @@ next : (c : tie.After-known-told Inv-loop μ-loop) → {done : Stepped} {out : L
     → Underway (a .ended) (a .bytes .now) (a .out .now) (a .t1) (a .answered) (done .session) (l .count + 1) (c .before .next .given .0 .1 .0) (done .at) out
 next c w long =
     let a = begun (turn c) .args in
-    underway-next (a .ended) (a .bytes .now) (a .out .now) (a .t1) (a .answered) (turn c .loop .inv .0) (sym (c .before .next .given .1) ∙ c .before .before .before .front .ensures) w long
+    underway-next (a .ended) (a .bytes .now) (a .out .now) (a .t1) (a .answered) (turn c .loop .inv .0) (sym (c .before .next .given .1) ∙ c .before .before .before .next-told .ensures) w long
 
 -- a change is at a place
 in-book : (c : tie.After-doing2 Inv-loop μ-loop) → c .doing2 .given .0 .1 .0 .place < places
@@ -71,8 +70,8 @@ loop-holds c = let s = c .before .before .before .before .before .before .before
 sub-front : tie.Need-sub-front Inv-loop μ-loop
 sub-front c = let h = c .before .loop .inv .0 in omega (arith, h .at-within)
 
-front-requires : tie.Need-front-requires Inv-loop μ-loop
-front-requires c κs = search needs
+next-told-requires : tie.Need-next-told-requires Inv-loop μ-loop
+next-told-requires c κs = search needs
 
 enum-known-next : tie.Need-enum-known-next Inv-loop μ-loop
 enum-known-next c = search needs
@@ -234,9 +233,9 @@ same-length-2 c = c .before .before .before .before .before .loop .inv .0 .as-lo
 returns : tie.Need-returns Inv-loop μ-loop
 returns c =
     let u = c .before .before .before .before .before .loop .inv .0 in
-    let front = c .before .before .before .front in
+    let nextTold = c .before .before .before .front in
     let a = begun (c .before .before .before .before .before) .args in
-    (underway-stop (a .ended) (a .bytes .now) (a .out .now) (a .t1) (a .answered) u (sym (c .before .next2 .given .1) ∙ front .ensures), omega (arith, u .as-long, u .at-within), u .only-text)
+    (underway-stop (a .ended) (a .bytes .now) (a .out .now) (a .t1) (a .answered) u (sym (c .before .next2 .given .1) ∙ nextTold .ensures), omega (arith, u .as-long, u .at-within), u .only-text)
 
 pub records-told-spec : {M : Type 1} → statement M
 records-told-spec =
@@ -247,7 +246,7 @@ records-told-spec =
     hint-all-requires
     loop-holds
     sub-front
-    front-requires
+    next-told-requires
     enum-known-next
     add-count
     doing-of-requires

@@ -1,6 +1,6 @@
 use borrow.Author.Needs.{needs}
-use Rattle.records.proofs.fields.order_fields.Statement.{statement}
-use Rattle.records.proofs.fields.order_fields.Tie as tie
+use Rattle.records.proofs.kinds.order_fields.Statement.{statement}
+use Rattle.records.proofs.kinds.order_fields.Tie as tie
 
 two-requires : tie.Need-two-requires
 two-requires c κs = search needs

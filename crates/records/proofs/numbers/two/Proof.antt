@@ -1,7 +1,7 @@
 use borrow.Author.Needs.{needs}
 use Rattle.records.specs.Numbers.{number-two}
-use Rattle.records.proofs.fields.two.Statement.{statement}
-use Rattle.records.proofs.fields.two.Tie as tie
+use Rattle.records.proofs.numbers.two.Statement.{statement}
+use Rattle.records.proofs.numbers.two.Tie as tie
 
 byte-requires : tie.Need-byte-requires
 byte-requires c κs = search needs

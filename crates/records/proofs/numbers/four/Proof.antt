@@ -1,7 +1,7 @@
 use borrow.Author.Needs.{needs}
 use Rattle.records.specs.Numbers.{number-four}
-use Rattle.records.proofs.fields.four.Statement.{statement}
-use Rattle.records.proofs.fields.four.Tie as tie
+use Rattle.records.proofs.numbers.four.Statement.{statement}
+use Rattle.records.proofs.numbers.four.Tie as tie
 
 two-requires : tie.Need-two-requires
 two-requires c κs = search needs

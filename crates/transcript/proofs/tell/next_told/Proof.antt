@@ -2,17 +2,17 @@
 use mathlib.Core.Path.{_≡_, sym, _∙_}
 use borrow.Author.Needs.{needs}
 use Rattle.records.specs.declared.{Piece.Piece}
-use Rattle.transcript.specs.Told.{front}
-use Rattle.transcript.specs.Next.{frontFrom, front-full, front-piece}
-use Rattle.transcript.proofs.tell.front.Statement.{statement}
-use Rattle.transcript.proofs.tell.front.Tie as tie
+use Rattle.transcript.specs.Told.{nextTold}
+use Rattle.transcript.specs.Next.{nextFrom, next-full, next-piece}
+use Rattle.transcript.proofs.tell.next_told.Statement.{statement}
+use Rattle.transcript.proofs.tell.next_told.Tie as tie
 
 -- with room, the front is the piece's
-from-piece : (c : tie.After-read-at) {p : Piece} → c .read-at .result ≡ p → let a = c .before .before .before .args in frontFrom p ≡ front (a .bytes .now) (a .place) (a .ended) (a .room)
-from-piece c e = let a = c .before .before .before .args in front-piece (a .bytes .now) (a .place) (a .ended) (c .before .if1 .left) (sym e ∙ c .read-at .ensures)
+from-piece : (c : tie.After-read-at) {p : Piece} → c .read-at .result ≡ p → let a = c .before .before .before .args in nextFrom p ≡ nextTold (a .bytes .now) (a .place) (a .ended) (a .room)
+from-piece c e = let a = c .before .before .before .args in next-piece (a .bytes .now) (a .place) (a .ended) (c .before .if1 .left) (sym e ∙ c .read-at .ensures)
 
 returns : tie.Need-returns
-returns c = let a = c .before .before .args in front-full (a .bytes .now) (a .place) (a .ended) (c .if1 .taken)
+returns c = let a = c .before .before .args in next-full (a .bytes .now) (a .place) (a .ended) (c .if1 .taken)
 
 read-at-requires : tie.Need-read-at-requires
 read-at-requires c κs = search needs
@@ -41,8 +41,8 @@ returns-4 c = from-piece (c .before .before) (c .enum-told2 .given .1)
 returns-5 : tie.Need-returns-5
 returns-5 c = from-piece (c .before .before) (c .enum-told3 .given .1)
 
-pub front-spec : {M : Type 1} → statement M
-front-spec =
+pub next-told-spec : {M : Type 1} → statement M
+next-told-spec =
     tie.close
     (tie.spec
     returns

@@ -1,7 +1,7 @@
 use borrow.Author.Needs.{needs}
 use Rattle.records.specs.Numbers.{number-eight}
-use Rattle.records.proofs.fields.eight.Statement.{statement}
-use Rattle.records.proofs.fields.eight.Tie as tie
+use Rattle.records.proofs.numbers.eight.Statement.{statement}
+use Rattle.records.proofs.numbers.eight.Tie as tie
 
 four-requires : tie.Need-four-requires
 four-requires c κs = search needs

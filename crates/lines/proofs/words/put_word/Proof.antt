@@ -1,7 +1,7 @@
 -- The case and its literal; what is searched for is the same for every word.
 use borrow.Author.Needs.{needs}
-use Rattle.lines.proofs.writer.put_word.Statement.{statement}
-use Rattle.lines.proofs.writer.put_word.Tie as tie
+use Rattle.lines.proofs.words.put_word.Statement.{statement}
+use Rattle.lines.proofs.words.put_word.Tie as tie
 
 pub put-word-spec : {M : Type 1} → statement M
 put-word-spec =

@@ -1,8 +1,8 @@
 use Rattle.records.specs.Numbers.{number-one, number-past}
 use denote.Ref.{now}
 use borrow.Author.Needs.{needs}
-use Rattle.records.proofs.fields.byte.Statement.{statement}
-use Rattle.records.proofs.fields.byte.Tie as tie
+use Rattle.records.proofs.numbers.byte.Statement.{statement}
+use Rattle.records.proofs.numbers.byte.Tie as tie
 
 shared-slice-read-result : tie.Need-shared-slice-read-result
 shared-slice-read-result c = search needs

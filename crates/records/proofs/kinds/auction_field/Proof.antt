@@ -1,6 +1,6 @@
 use borrow.Author.Needs.{needs}
-use Rattle.records.proofs.fields.auction_field.Statement.{statement}
-use Rattle.records.proofs.fields.auction_field.Tie as tie
+use Rattle.records.proofs.kinds.auction_field.Statement.{statement}
+use Rattle.records.proofs.kinds.auction_field.Tie as tie
 
 byte-requires : tie.Need-byte-requires
 byte-requires c κs = search needs

@@ -1,9 +1,9 @@
 use mathlib.Core.Path.{refl, ap}
 use borrow.Author.Needs.{needs}
-use Rattle.records.specs.declared.{Record.Record}
+use Rattle.records.specs.declared.{kinds.Record.Record}
 use Rattle.records.specs.Headers.{header-cut, header-record, header-bad}
-use Rattle.records.proofs.walk.header_at.Statement.{statement}
-use Rattle.records.proofs.walk.header_at.Tie as tie
+use Rattle.records.proofs.kinds.header_at.Statement.{statement}
+use Rattle.records.proofs.kinds.header_at.Tie as tie
 
 sub-left : tie.Need-sub-left
 sub-left c = search needs

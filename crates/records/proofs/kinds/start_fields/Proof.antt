@@ -1,6 +1,6 @@
 use borrow.Author.Needs.{needs}
-use Rattle.records.proofs.fields.start_fields.Statement.{statement}
-use Rattle.records.proofs.fields.start_fields.Tie as tie
+use Rattle.records.proofs.kinds.start_fields.Statement.{statement}
+use Rattle.records.proofs.kinds.start_fields.Tie as tie
 
 four-requires : tie.Need-four-requires
 four-requires c κs = search needs
