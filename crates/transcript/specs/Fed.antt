@@ -108,7 +108,7 @@ read-on : (bytes more : List ℕ) (place : ℕ) (ended : Bool) → (ended ≡ tr
 read-on bytes more place true none h = ap (λ (file : List ℕ). recordAt file place) (ap (λ (m : List ℕ). bytes ++ m) (none refl) ∙ append-nil bytes)
 read-on bytes more place false none h = settled-read bytes place h more
 
--- what a front says of the whole file
+-- what is told next of the whole file
 abbrev Reads : List ℕ → ℕ → Bool → ℕ → Next → Type 0
 Reads file place ended room (Next.Record r next) = recordAt file place ≡ Read.Record r next
 Reads file place ended room (Next.Stop Stop.Full) = room < recordRoom

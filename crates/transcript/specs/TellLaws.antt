@@ -30,7 +30,7 @@ not-past bytes place e = go (leb (length bytes) place) refl where
       let z : _≡_ {A = ℕ} 0 1 = cc in
       absurd (omega arith)
 
--- what holds of a front: there is room for the lines that it stands for, a record brings the place further, and a fault stands before the end
+-- what holds of what is next: there is room for the lines that it stands for, a record brings the place further, and a fault stands before the end
 abbrev Fronts : List ℕ → ℕ → ℕ → Next → Type 0
 Fronts bytes place room (Next.Record r next) = (place < next) × (next ≤ length bytes) × (recordRoom ≤ room) × (recordAt bytes place ≡ Read.Record r next)
 Fronts bytes place room (Next.Stop why) = (place ≤ length bytes → place + faults why ≤ length bytes) × (lastRoom why ≤ room)
@@ -45,12 +45,12 @@ fronts bytes place ended room = go (ltb room recordRoom) (not ended && needsMore
   go false false Read.End p q = (λ h. omega arith, omega (arith, ltb-false room recordRoom p))
   go false false (Read.Record r next) p q = let n = next-place bytes place q in (n .0, n .1, ltb-false room recordRoom p, q)
 
--- the front is a record: it brings the place further, not behind the end, and there was room
+-- a record is next: it brings the place further, not behind the end, and there was room
 pub next-record : (bytes : List ℕ) (place : ℕ) (ended : Bool) (room : ℕ) {r : Record} {next : ℕ} → nextTold bytes place ended room ≡ Next.Record r next
     → (place < next) × (next ≤ length bytes) × (recordRoom ≤ room) × (recordAt bytes place ≡ Read.Record r next)
 next-record bytes place ended room e = subst (λ (f : Next). Fronts bytes place room f) e (fronts bytes place ended room)
 
--- the front is none: there is room for the last lines, and a fault stands before the end
+-- none is next: there is room for the last lines, and a fault stands before the end
 next-stop : (bytes : List ℕ) (place : ℕ) (ended : Bool) (room : ℕ) {why : Stop} → nextTold bytes place ended room ≡ Next.Stop why → place ≤ length bytes
     → (place + faults why ≤ length bytes) × (lastRoom why ≤ room)
 next-stop bytes place ended room {why} e h = let f = subst (λ (f : Next). Fronts bytes place room f) e (fronts bytes place ended room) in (f .0 h, f .1)

@@ -7,7 +7,7 @@ use Rattle.transcript.specs.Next.{nextFrom, next-full, next-piece}
 use Rattle.transcript.proofs.tell.next_told.Statement.{statement}
 use Rattle.transcript.proofs.tell.next_told.Tie as tie
 
--- with room, the front is the piece's
+-- with room, what is next is what the piece says
 from-piece : (c : tie.After-read-at) {p : Piece} → c .read-at .result ≡ p → let a = c .before .before .before .args in nextFrom p ≡ nextTold (a .bytes .now) (a .place) (a .ended) (a .room)
 from-piece c e = let a = c .before .before .before .args in next-piece (a .bytes .now) (a .place) (a .ended) (c .before .if1 .left) (sym e ∙ c .read-at .ensures)
 

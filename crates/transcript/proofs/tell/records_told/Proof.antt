@@ -67,8 +67,8 @@ hint-all-requires c κs = search needs
 loop-holds : tie.Need-loop-holds Inv-loop μ-loop
 loop-holds c = let s = c .before .before .before .before .before .before .before in let a = s .args in (underway-first (a .ended) (a .bytes .now) (a .out .now) (a .t1) (a .answered) (s .pre .0), s .pre .1, refl)
 
-sub-front : tie.Need-sub-front Inv-loop μ-loop
-sub-front c = let h = c .before .loop .inv .0 in omega (arith, h .at-within)
+sub-next-told : tie.Need-sub-next-told Inv-loop μ-loop
+sub-next-told c = let h = c .before .loop .inv .0 in omega (arith, h .at-within)
 
 next-told-requires : tie.Need-next-told-requires Inv-loop μ-loop
 next-told-requires c κs = search needs
@@ -233,9 +233,9 @@ same-length-2 c = c .before .before .before .before .before .loop .inv .0 .as-lo
 returns : tie.Need-returns Inv-loop μ-loop
 returns c =
     let u = c .before .before .before .before .before .loop .inv .0 in
-    let nextTold = c .before .before .before .front in
+    let next-told = c .before .before .before .next-told in
     let a = begun (c .before .before .before .before .before) .args in
-    (underway-stop (a .ended) (a .bytes .now) (a .out .now) (a .t1) (a .answered) u (sym (c .before .next2 .given .1) ∙ nextTold .ensures), omega (arith, u .as-long, u .at-within), u .only-text)
+    (underway-stop (a .ended) (a .bytes .now) (a .out .now) (a .t1) (a .answered) u (sym (c .before .next2 .given .1) ∙ next-told .ensures), omega (arith, u .as-long, u .at-within), u .only-text)
 
 pub records-told-spec : {M : Type 1} → statement M
 records-told-spec =
@@ -245,7 +245,7 @@ records-told-spec =
     μ-loop
     hint-all-requires
     loop-holds
-    sub-front
+    sub-next-told
     next-told-requires
     enum-known-next
     add-count
