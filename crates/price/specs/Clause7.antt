@@ -41,3 +41,13 @@ difference-decides = refl
 order-quantity : auctionPrice 100_000 (buy 1 100 100_400 ∷ sell 2 80 99_700 ∷ sell 3 50 99_900 ∷ []) ≡ some 99_900
 unfolding auctionPrice interest apart
 order-quantity = refl
+
+-- 9. e, with a better order remaining: as printed 99,800
+unlimited-with-better : auctionPrice 99_900 (buyAny 1 30 ∷ buy 2 10 99_900 ∷ sell 3 30 99_800 ∷ []) ≡ some 99_900
+unfolding auctionPrice interest apart
+unlimited-with-better = refl
+
+-- 10. f or g, by the reading of "order quantity": as printed 99,500 or 99,900
+either-quantity : auctionPrice 100_000 (buy 1 50 100_500 ∷ buy 2 50 100_300 ∷ sell 3 100 99_500 ∷ []) ≡ some 100_000
+unfolding auctionPrice interest apart
+either-quantity = refl
