@@ -1,5 +1,5 @@
 # The front door. `make test` is the gate; see README.md.
-.PHONY: test run bench compare soak release verify
+.PHONY: test run bench compare soak release verify moved
 
 test:
 	@sh tools/test.sh
@@ -25,3 +25,7 @@ release:
 
 verify:
 	@sh tools/verify.sh "$$DIR"
+
+# What moved since the commit FROM, crate by crate, by name and in seconds: the skeleton of a note in docs/CHANGES.md.
+moved:
+	@sh tools/moved.sh "$$FROM"

@@ -29,6 +29,21 @@ crates() {
     awk -F: '{ sub(/#.*/, "") } NF > 1 { gsub(/[ \t]/, "", $1); print $1 }' crates.txt | sort
 }
 
+# below CRATE..: the crates of the tree that these use, and these, each behind those that it uses.
+below() {
+    awk -F: -v asked="$*" '
+        function take(name,    names, n, i) {
+            if (!(name in uses) || name in taken) return
+            taken[name]
+            n = split(uses[name], names, " ")
+            for (i = 1; i <= n; i++) take(names[i])
+            print name
+        }
+        { sub(/#.*/, "") }
+        NF > 1 { gsub(/[ \t]/, "", $1); uses[$1] = $2 }
+        END { n = split(asked, names, " "); for (i = 1; i <= n; i++) take(names[i]) }' crates.txt
+}
+
 # digest CRATE PART: of the paths and the bytes of the files in it.
 digest() {
     { [ ! -d "crates/$1/$2" ] || (cd "crates/$1" && find "$2" ! -type d -exec sha256sum {} +); } | sort -k 2 | sum

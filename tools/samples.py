@@ -1,5 +1,6 @@
 #!/usr/bin/env python3
-"""samples.py: writes samples/*.session and samples/README.md. samples.py NAME: writes that one file to standard output.
+"""samples.py: writes samples/*.session and samples/README.md. samples.py --into FOLDER: writes them there instead.
+samples.py NAME: writes that one file to standard output.
 
 A sample is a function: its name is the file's, its docstring the README's sentence, what it returns the file's records. What
 is printed for it, samples/*.out, is not made here: the scope document says what is right there, not a program.
@@ -610,8 +611,8 @@ README = """# Samples
 Session files, what each of them shows, and what is printed for it: `NAME.session` and `NAME.out`. `make run FILE=samples/worked.session` runs one;
 `tools/samples.sh`, a part of `make test`, runs all of them and holds what they print to the `.out`, byte by byte.
 
-`tools/samples.py` makes the session files and this page. It doesn't make a `.out`: the scope document says what is right there, so a `.out` changes only when
-a rule does.
+`tools/samples.py` makes the session files and this page, and `tools/samples.sh` holds them to it. It doesn't make a `.out`: the scope document
+says what is right there, so a `.out` changes only when a rule does.
 
 Unless the sentence says otherwise a session has the step 100, the reference price 100,000, the factor 9, the threshold 150 and the maximum order value
 1,000,000,000,000, and its orders are day orders of member 7. Refusals are named by their number in the scope document. Refusal 12 can't come up in a
@@ -625,13 +626,15 @@ UNSTORED_ROW = " Not stored, for its 26 MB: `python3 tools/samples.py {}` prints
 
 
 def main():
-    if len(sys.argv) > 1:
+    folder = Path(__file__).resolve().parent.parent / "samples"
+    if sys.argv[1:2] == ["--into"] and len(sys.argv) == 3:
+        folder = Path(sys.argv[2])
+    elif len(sys.argv) > 1:
         made = {f.__name__: f for f in SAMPLES + UNSTORED}
         if sys.argv[1] not in made:
             sys.exit(f"samples: no sample {sys.argv[1]}")
         sys.stdout.buffer.write(b"".join(made[sys.argv[1]]()))
         return
-    folder = Path(__file__).resolve().parent.parent / "samples"
     for old in folder.glob("*.session"):
         old.unlink()
     rows = []

@@ -1,5 +1,6 @@
 #!/bin/sh
-# Runs every session file of samples/ and holds what is printed to its .out, byte by byte. tools/samples.py makes the files.
+# Runs every session file of samples/ and holds what is printed to its .out, byte by byte; and holds the files to tools/samples.py, which makes
+# them and their README.
 cd "$(dirname "$0")/.." || exit 1
 program=target/bin/replay
 [ -x "$program" ] || { echo "samples: no program $program: rt check replay builds it"; exit 1; }
@@ -51,8 +52,21 @@ if command -v python3 >/dev/null 2>&1; then
     printf '%s\n' '1999489 order 0 1000000' '1999490 order 9 0' '1999491 delete 0' '1999492 order 9 0' 'end 1999492' >"$dir/stored"
     python3 tools/samples.py refusal_9 | x86 "$program" | tail -n 5 >"$dir/printed"
     same refusal_9 "$dir/stored" || bad=1
+    # The stored files are what the generator makes.
+    { mkdir "$dir/made" && python3 tools/samples.py --into "$dir/made"; } || { echo "samples: tools/samples.py makes no files"; exit 1; }
+    for name in $({ ls "$dir/made" && cd samples && ls -- *.session; } | sort -u); do
+        cmp -s "$dir/made/$name" "samples/$name" && continue
+        if [ ! -f "$dir/made/$name" ]; then
+            echo "samples: $name is stored, and tools/samples.py doesn't make it"
+        elif [ ! -f "samples/$name" ]; then
+            echo "samples: $name is not stored, and tools/samples.py makes it"
+        else
+            echo "samples: $name is not what tools/samples.py makes"
+        fi
+        bad=1
+    done
 else
-    echo "samples: no python3 on the PATH: refusal_9 is not run"
+    echo "samples: no python3 on the PATH: refusal_9 is not run, and the files are not made again"
 fi
 
 [ $bad -ne 0 ] || echo "samples: $count files as stored"
