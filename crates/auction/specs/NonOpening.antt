@@ -1,4 +1,4 @@
--- Non Opening: exactly when no trade list at any price fills every unlimited order taking part.
+-- Non Opening: exactly when no trade list at any price, or at any legal price, fills every unlimited order taking part.
 use Prim.Native.Nat.{ℕ, _≤_}
 use mathlib.Core.Bool.{Bool, true, false, not, _&&_, _||_}
 use mathlib.Core.Logic.{_↔_, ⊎-elim}
@@ -9,14 +9,15 @@ use lib.Dec.{T, eqb, eqb→eq, ltb}
 use Rattle.lists.specs.Tests.{tests, and-both, and-intro, or-cases, decided}
 use Rattle.lists.specs.Sums.{_∈_, counted, counted-pass, sum, sum-each, sum-mono, sum-swap}
 use Rattle.lists.specs.Choice.{highest-at}
-use Rattle.terms.specs.Orders.{Resting}
+use Rattle.terms.specs.Orders.{Resting, isLegal}
 use Rattle.terms.specs.declared.orders.{Side.Side, Side.the-variants.Buy, Side.the-variants.Sell, Limit.Limit, Limit.the-variants.Unlimited, Limit.the-variants.At}
 use Rattle.queue.specs.Sides.{isUnlimited, sameSide-eq, sameSide-refl}
 use Rattle.queue.specs.Distinct.{Distinct, distinct-sum}
 use Rattle.queue.specs.Rank.{onSide, betterLimit, ahead-limit, ranked, ranked-in-order}
 use Rattle.fills.specs.Fill.{FrontPart, ranked-front}
 use Rattle.price.specs.Interest.{interest, executable, executable-within}
-use Rattle.price.specs.Candidates.{limits, mostExecutable}
+use Rattle.price.specs.Candidates.{limits, candidates, mostExecutable}
+use Rattle.price.specs.Legal.{candidates-legal}
 use Rattle.trades.specs.declared.{Trade.Trade}
 use Rattle.trades.specs.Trades.{party, traded, volume, TradeList, volume-le-most}
 use Rattle.trades.specs.TradesOf.{tradesOf, traded-front, trades-possible}
@@ -85,18 +86,27 @@ fills-all p quantity book d enough covers o m u = omega (arith, trades-possible 
       counted-pass (onSide (o .side) o && isUnlimited (o .limit)) (traded (o .side) (o .number) (tradesOf quantity book)) here,
     )
 
--- some trade list at some price fills every unlimited order
+-- some trade list at some price fills every unlimited order ..
 abbrev pub Fillable : List Resting → Type 0
 Fillable book = (p : ℕ) × (trades : List Trade) × TradeList p book trades × AllFilled book trades
 
-fillable-within : (reference : ℕ) (book : List Resting) → Distinct book → Fillable book ↔ ((s : Side) → unlimited s book ≤ mostExecutable reference book)
+-- .. and at some legal price
+abbrev pub FillableAt : (ℕ → Bool) → List Resting → Type 0
+FillableAt legal book = (p : ℕ) × T (legal p) × (trades : List Trade) × TradeList p book trades × AllFilled book trades
+
+-- the candidate that executes most fills all that any price does
+candidate-fills : (reference : ℕ) (book : List Resting) → Distinct book → ((s : Side) → unlimited s book ≤ mostExecutable reference book)
+    → (p : ℕ) × (p ∈ candidates reference book) × (trades : List Trade) × TradeList p book trades × AllFilled book trades
 unfolding mostExecutable
+candidate-fills reference book d h =
+    let (c, listed, e) = highest-at (executable book) reference (limits book) in
+    let enough : (s : Side) → executable book c ≤ interest s c book = λ s. executable-within s c book in
+    (c, listed, tradesOf (executable book c) book, trades-possible c (executable book c) book d enough, fills-all c (executable book c) book d enough (λ s. omega (arith, h s)))
+
+fillable-within : (reference : ℕ) (book : List Resting) → Distinct book → Fillable book ↔ ((s : Side) → unlimited s book ≤ mostExecutable reference book)
 fillable-within reference book d = (
   (λ (p, trades, possible, filled). filled-within reference p book trades d possible filled),
-  (λ h.
-      let (c, listed, e) = highest-at (executable book) reference (limits book) in
-      let enough : (s : Side) → executable book c ≤ interest s c book = λ s. executable-within s c book in
-      (c, tradesOf (executable book c) book, trades-possible c (executable book c) book d enough, fills-all c (executable book c) book d enough (λ s. omega (arith, h s)))),
+  (λ h. let (c, listed, trades, possible, filled) = candidate-fills reference book d h in (c, trades, possible, filled)),
 )
 
 pub non-opening-exactly : (reference : ℕ) (book : List Resting) → Distinct book → T (nonOpening reference book) ↔ (Fillable book → ⊥)
@@ -117,3 +127,12 @@ non-opening-exactly reference book d = (
     within : T (not (ltb (mostExecutable reference book) (unlimited Buy book) || ltb (mostExecutable reference book) (unlimited Sell book))) → (s : Side) → unlimited s book ≤ mostExecutable reference book
     within h Buy = omega (tests, neither (ltb (mostExecutable reference book) (unlimited Buy book)) _ h .0)
     within h Sell = omega (tests, neither (ltb (mostExecutable reference book) (unlimited Buy book)) _ h .1)
+
+-- The two senses of "price" are one, where the limits and the reference price are legal: a candidate fills them, if any price does.
+pub fillable-legally : (legal : ℕ → Bool) (reference : ℕ) (book : List Resting) → Distinct book → T (legal reference) → ((o : Resting) → o ∈ book → T (isLegal legal (o .limit)))
+    → Fillable book ↔ FillableAt legal book
+fillable-legally legal reference book d r h = (
+  (λ f. let (c, listed, trades, possible, filled) = candidate-fills reference book d (fillable-within reference book d .0 f) in
+      (c, candidates-legal legal reference book r h c listed, trades, possible, filled)),
+  (λ (p, lawful, trades, possible, filled). (p, trades, possible, filled)),
+)

@@ -11,5 +11,6 @@ pub mod Prevented
 pub mod Foreseen
 pub mod Traded
 pub mod Auctioned
+pub mod EveryRun
 pub mod FilledFronts
 pub mod Files

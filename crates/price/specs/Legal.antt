@@ -21,11 +21,13 @@ limits-all P ask told (o ∷ os) h p m = go (o .limit) (h o (List·Memᴰ·head 
     go (At l) k below (List·Memᴰ·head e) = rw e (told l k)
     go (At l) k below (List·Memᴰ·tail m) = below m
 
--- The auction price is legal, where the limits and the reference price are (B7).
+-- every candidate is legal, where the limits and the reference price are ..
+pub candidates-legal : (legal : ℕ → Bool) (reference : ℕ) (book : List Resting) → T (legal reference) → ((o : Resting) → o ∈ book → T (isLegal legal (o .limit)))
+    → (p : ℕ) → p ∈ candidates reference book → T (legal p)
+candidates-legal legal reference book r h p (List·Memᴰ·head i) = rw i r
+candidates-legal legal reference book r h p (List·Memᴰ·tail m) = limits-all (λ p. T (legal p)) (λ w. T (isLegal legal w)) (λ p k. k) book h p m
+
+-- .. and so is the auction price (B7)
 pub price-legal : (legal : ℕ → Bool) (reference : ℕ) (book : List Resting) → T (legal reference) → ((o : Resting) → o ∈ book → T (isLegal legal (o .limit)))
     → (p : ℕ) → auctionPrice reference book ≡ some p → T (legal p)
-price-legal legal reference book r h p e = go (price-candidate reference book p e)
-  where
-    go : p ∈ candidates reference book → T (legal p)
-    go (List·Memᴰ·head i) = rw i r
-    go (List·Memᴰ·tail m) = limits-all (λ p. T (legal p)) (λ w. T (isLegal legal w)) (λ p k. k) book h p m
+price-legal legal reference book r h p e = candidates-legal legal reference book r h p (price-candidate reference book p e)
