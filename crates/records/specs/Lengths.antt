@@ -8,14 +8,18 @@ use native.Mathlib.Omega.{arith}
 use borrow.Author.Tests.{eq-eqb, ne-eqb, eqb-true}
 use Rattle.records.specs.Fields.{headerLength, kindLength, isLength}
 
+-- a record's length has two bytes: every record is shorter
+abbrev pub lengthBound : ℕ
+lengthBound = 65_536
+
 -- a kind's length and the kind as one number of four bytes
 abbrev pub headOf : ℕ → ℕ
 headOf kind = kindLength kind + 65_536 * kind
 
 -- every known kind has a field, and its length two bytes
-pub known-length : (kind : ℕ) → eqb (kindLength kind) 0 ≡ false → (headerLength < kindLength kind) × (kindLength kind < 65_536)
+pub known-length : (kind : ℕ) → eqb (kindLength kind) 0 ≡ false → (headerLength < kindLength kind) × (kindLength kind < lengthBound)
 known-length kind h = go (eqb kind 1) (eqb kind 2) (eqb kind 3) (eqb kind 4) refl refl refl refl where
-  go : (a b c d : Bool) → eqb kind 1 ≡ a → eqb kind 2 ≡ b → eqb kind 3 ≡ c → eqb kind 4 ≡ d → (headerLength < kindLength kind) × (kindLength kind < 65_536)
+  go : (a b c d : Bool) → eqb kind 1 ≡ a → eqb kind 2 ≡ b → eqb kind 3 ≡ c → eqb kind 4 ≡ d → (headerLength < kindLength kind) × (kindLength kind < lengthBound)
   go true b c d p q r s = rw p (omega arith)
   go false true c d p q r s = rw (p, q) (omega arith)
   go false false true d p q r s = rw (p, q, r) (omega arith)
@@ -33,6 +37,9 @@ length-is kind bytes length h = let n = both (eqb (kindLength kind) 0) (eqb leng
 
 pub length-above : (kind : ℕ) (bytes : List ℕ) (length : ℕ) → isLength kind bytes length ≡ true → headerLength < length
 length-above kind bytes length h = let n = length-is kind bytes length h in omega (arith, known-length kind (n .0))
+
+pub length-below : (kind : ℕ) (bytes : List ℕ) (length : ℕ) → isLength kind bytes length ≡ true → length < lengthBound
+length-below kind bytes length h = let n = length-is kind bytes length h in omega (arith, known-length kind (n .0))
 
 -- more bytes behind change nothing
 pub length-front : (kind : ℕ) (bytes more : List ℕ) (length : ℕ) → isLength kind (bytes ++ more) length ≡ isLength kind bytes length

@@ -12,7 +12,7 @@ use Rattle.lists.specs.Tests.{neither}
 use Rattle.records.specs.declared.{kinds.Record.Record, Piece.Piece, kinds.Header.Header}
 use Rattle.records.specs.Fields.{number, headerLength, recordOf}
 use Rattle.records.specs.Numbers.{number-moved}
-use Rattle.records.specs.Lengths.{length-front}
+use Rattle.records.specs.Lengths.{lengthBound, length-below, length-front}
 use Rattle.records.specs.Walk.{Read, lengthAt, kindAt, partAt, isHeader, isCut, isFaulty, recordAt}
 use Rattle.records.specs.Headers.{headerAt, headerRead, read-header}
 use Rattle.records.specs.Reads.{faulty-whole, read-end, read-fault, read-record, good-record}
@@ -20,6 +20,15 @@ use Rattle.records.specs.Reads.{faulty-whole, read-end, read-fault, read
 -- the header isn't whole yet, or it is good and its record isn't
 abbrev pub needsMore : List ℕ → ℕ → Bool
 needsMore bytes place = ltb (length bytes) (place + headerLength) || isHeader bytes place && isCut bytes place
+
+-- what waits for more is shorter than a record can be
+pub waits-short : (bytes : List ℕ) (place : ℕ) → needsMore bytes place ≡ true → length bytes < place + lengthBound
+waits-short bytes place h = go (ltb (length bytes) (place + headerLength)) (isHeader bytes place) (isCut bytes place) refl refl refl h where
+  go : (a b c : Bool) → ltb (length bytes) (place + headerLength) ≡ a → isHeader bytes place ≡ b → isCut bytes place ≡ c → a || b && c ≡ true → length bytes < place + lengthBound
+  go true b c p q r e = omega (arith, ltb-true (length bytes) (place + headerLength) p)
+  go false true true p q r e = omega (arith, ltb-true (length bytes) (place + lengthAt bytes place) r, length-below (kindAt bytes place) (drop place bytes) (lengthAt bytes place) q)
+  go false true false p q r e = absurd (true≢false (sym e))
+  go false false c p q r e = absurd (true≢false (sym e))
 
 -- of a file that won't grow
 abbrev pub pieceOf : Read → Piece

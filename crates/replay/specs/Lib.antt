@@ -1,3 +1,4 @@
--- The session program: what holds between its turns.
+-- The session program: what holds between its turns, and of all of them.
 pub mod Moved
 pub mod Turns
+pub mod WholeRun

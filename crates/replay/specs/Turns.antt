@@ -1,7 +1,7 @@
 -- What holds between two turns, and what a turn does: the step of `fed`, of which A7 is proved.
-use Prim.Native.Nat.{ℕ, suc, _+_, _-_, _≤_}
-use mathlib.Core.Bool.{Bool, true, false}
-use mathlib.Core.Logic.{_⊎_}
+use Prim.Native.Nat.{ℕ, suc, _+_, _-_, _≤_, _<_}
+use mathlib.Core.Bool.{Bool, true, false, false≢true}
+use mathlib.Core.Logic.{_⊎_, inl, inr}
 use mathlib.Core.Path.{_≡_, refl, sym, subst, ap, _∙_}
 use mathlib.Core.List.{List, _++_}
 use native.Mathlib.Omega.{arith}
@@ -10,10 +10,11 @@ use lib.ListN.{length, take, drop, length-drop}
 use lib.Seq.{length-take-le, drop-at, take-add, take-append-add, take-append-le, drop-drop}
 use Rattle.session.specs.declared.{Session.Session}
 use Rattle.session.specs.Sound.{Sound}
+use Rattle.records.specs.Lengths.{lengthBound}
 use Rattle.transcript.specs.declared.{Stop.Stop, Telling.Telling}
 use Rattle.transcript.specs.Told.{TellingLeaves, tellingLeaves, told}
 use Rattle.transcript.specs.TellLaws.{Returned, told-returned}
-use Rattle.transcript.specs.Fed.{isEnd, goFeed, fed}
+use Rattle.transcript.specs.Fed.{isEnd, goFeed, fed, Stopped, told-stopped}
 use Rattle.replay.specs.declared.{Held.Held, Run.Run}
 
 -- the bytes held lie in a buffer of this size
@@ -30,38 +31,53 @@ waitsFor Stop.Waits = true
 waitsFor Stop.Fault = false
 waitsFor Stop.End = false
 
--- what was held, and a read behind it; the input has ended where the read brought nothing
-pub record ReadBehind (before after : List ℕ) (ended : Bool) : Type 0 where
+-- no turn follows
+abbrev pub isOver : Stop → Bool
+isOver Stop.Full = false
+isOver Stop.Waits = false
+isOver Stop.Fault = true
+isOver Stop.End = true
+
+-- what was held, and a read behind it, in a buffer with room for one byte more at least; the input has ended where the read brought nothing
+pub record ReadBehind (size : ℕ) (before after : List ℕ) (ended : Bool) : Type 0 where
+  pub room : length before < size
   pub read : List ℕ
   pub behind : after ≡ before ++ read
   pub ends : ended ≡ eqb (length read) 0
 
 -- the bytes for the next telling: one read more where the last one waits for it, and else the same
-abbrev Fetching : Bool → List ℕ → Bool → List ℕ → Bool → Type 0
-Fetching true before ended after later = ReadBehind before after later
-Fetching false before ended after later = (after ≡ before) × (later ≡ ended)
+abbrev pub Fetching : Bool → ℕ → List ℕ → Bool → List ℕ → Bool → Type 0
+Fetching true size before ended after later = ReadBehind size before after later
+Fetching false size before ended after later = (after ≡ before) × (later ≡ ended)
 
-abbrev pub Fetched : Stop → List ℕ → Bool → List ℕ → Bool → Type 0
-Fetched stop before ended after later = Fetching (waitsFor stop) before ended after later
+abbrev pub Fetched : Stop → ℕ → List ℕ → Bool → List ℕ → Bool → Type 0
+Fetched stop size before ended after later = Fetching (waitsFor stop) size before ended after later
 
-pub fetched-read : (stop : Stop) (before after : List ℕ) (ended later : Bool) → waitsFor stop ≡ true → ReadBehind before after later → Fetched stop before ended after later
-fetched-read stop before after ended later e read = rw e read
+pub fetched-read : (stop : Stop) (size : ℕ) (before after : List ℕ) (ended later : Bool) → waitsFor stop ≡ true → ReadBehind size before after later
+    → Fetched stop size before ended after later
+fetched-read stop size before after ended later e read = rw e read
 
-pub fetched-none : (stop : Stop) (before : List ℕ) (ended : Bool) → waitsFor stop ≡ false → Fetched stop before ended before ended
-fetched-none stop before ended e = rw e (refl, refl)
+pub fetched-none : (stop : Stop) (size : ℕ) (before : List ℕ) (ended : Bool) → waitsFor stop ≡ false → Fetched stop size before ended before ended
+fetched-none stop size before ended e = rw e (refl, refl)
+
+-- the bytes held leave room for a read where one is waited for
+abbrev pub RoomToRead : ℕ → Held → Stop → Type 0
+RoomToRead size held stop = waitsFor stop ≡ true → held .to - held .from < size
 
 pub record Going (size : ℕ) (run : Run) : Type 0 where
   pub held-within : Within size (run .held)
   pub sound : Sound (run .session)
+  pub room-to-read : RoomToRead size (run .held) (run .stop)
 
 -- A turn: the bytes fetched are told, and the next turn has those behind what was told.
 pub record Turned (run : Run) (input out : List ℕ) (next : Run) (later-input later-out : List ℕ) : Type 0 where
   pub bytes : List ℕ
-  pub fetched : Fetched (run .stop) (heldIn (run .held) input) (run .held .ended) bytes (next .held .ended)
+  pub fetched : Fetched (run .stop) (length input) (heldIn (run .held) input) (run .held .ended) bytes (next .held .ended)
   pub telling : Telling
   pub tells : tellingLeaves telling later-out ≡ told (run .session) (run .answered) bytes (next .held .ended) out
   pub session : next .session ≡ telling .session
   pub answered : next .answered ≡ telling .answered
+  pub same-room : length later-out ≡ length out
   pub left : heldIn (next .held) later-input ≡ drop (telling .place) bytes
   -- it stops as the telling does, unless what was told could not be printed
   pub stop : (next .stop ≡ telling .stop) ⊎ (next .stop ≡ Stop.End)
@@ -72,6 +88,28 @@ pub record Returns (answered from to : ℕ) (input out : List ℕ) (r : Telling)
   pub place-within : from + r .place ≤ to
   pub counted : r .answered ≤ answered + length input
   pub sound : Sound (r .session)
+  pub short : r .stop ≡ Stop.Waits → to - (from + r .place) < lengthBound
+
+-- a run waits only where its telling does
+pub telling-waits : (stop why : Stop) → (stop ≡ why) ⊎ (stop ≡ Stop.End) → waitsFor stop ≡ true → why ≡ Stop.Waits
+telling-waits stop why (inr e) w = absurd (false≢true (sym (ap waitsFor e) ∙ w))
+telling-waits stop why (inl e) w = sym e ∙ go stop w where
+  go : (stop : Stop) → waitsFor stop ≡ true → stop ≡ Stop.Waits
+  go Stop.Full w = absurd (false≢true w)
+  go Stop.Waits w = refl
+  go Stop.Fault w = absurd (false≢true w)
+  go Stop.End w = absurd (false≢true w)
+
+-- what a telling returned: where it stands, and by why it stopped
+module _ (s : Session) (answered : ℕ) (bytes out : List ℕ) (ended : Bool) {r : Telling} {out′ : List ℕ} (e : tellingLeaves r out′ ≡ told s answered bytes ended out) where
+  pub returned-by : Sound s → Returned bytes answered out r
+  returned-by sound = subst (λ (l : TellingLeaves). Returned bytes answered out (l .returned)) (sym e) (told-returned s answered bytes ended out sound)
+
+  pub stopped-by : Stopped (length out) ended bytes r
+  stopped-by = subst (λ (l : TellingLeaves). Stopped (length out) ended bytes (l .returned)) (sym e) (told-stopped s answered bytes ended out)
+
+pub held-length : (from to : ℕ) (input : List ℕ) → from ≤ to → to ≤ length input → length (take (to - from) (drop from input)) ≡ to - from
+held-length from to input h k = length-take-le (to - from) (drop from input) (omega (arith, length-drop from input))
 
 pub told-returns : (s : Session) (answered from to : ℕ) (input out : List ℕ) (ended : Bool) → Sound s → (from ≤ to) × (to ≤ length input) → {r : Telling} {out′ : List ℕ}
     → tellingLeaves r out′ ≡ told s answered (take (to - from) (drop from input)) ended out → Returns answered from to input out r
@@ -80,16 +118,17 @@ told-returns s answered from to input out ended sound within {r} e = record {
   place-within = omega (arith, size, returned .place-within, within .0);
   counted = omega (arith, size, returned .counted, within .1);
   sound = returned .sound;
+  short = λ w. omega (arith, size, returned .place-within, within .0, stopped-by s answered held out ended e .short w);
 }
   where
     held : List ℕ
     held = take (to - from) (drop from input)
 
     returned : Returned held answered out r
-    returned = subst (λ (l : TellingLeaves). Returned held answered out (l .returned)) (sym e) (told-returned s answered held ended out sound)
+    returned = returned-by s answered held out ended e sound
 
     size : length (take (to - from) (drop from input)) ≡ to - from
-    size = length-take-le (to - from) (drop from input) (omega (arith, length-drop from input, within .0, within .1))
+    size = held-length from to input (within .0) (within .1)
 
 -- the bytes behind a place of those held
 pub held-left : (input : List ℕ) (from to place : ℕ) → from + place ≤ to → to ≤ length input
@@ -105,16 +144,17 @@ held-left input from to place h k =
     split = omega arith
 
 -- the bytes held moved to the front, and a read behind them
-pub read-behind : (before moved tail rest : List ℕ) (kept got : ℕ) → take kept moved ≡ before → kept ≤ length moved → got ≤ length tail
-    → ReadBehind before (heldIn (record { from = 0; to = kept + got; ended = eqb got 0 }) (take kept moved ++ (tail ++ rest))) (eqb got 0)
-read-behind before moved tail rest kept got same room few = record {
+pub read-behind : (size : ℕ) (before moved tail rest : List ℕ) (kept got : ℕ) → length before < size → take kept moved ≡ before → kept ≤ length moved → got ≤ length tail
+    → ReadBehind size before (heldIn (record { from = 0; to = kept + got; ended = eqb got 0 }) (take kept moved ++ (tail ++ rest))) (eqb got 0)
+read-behind size before moved tail rest kept got more same room few = record {
+  room = more;
   read = take got tail;
-  behind = ap (λ (n : ℕ). take n (take kept moved ++ (tail ++ rest))) size ∙ take-append-add (take kept moved) (tail ++ rest) got ∙ ap (λ (l : List ℕ). take kept moved ++ l) (take-append-le got tail rest few) ∙ ap (λ (l : List ℕ). l ++ take got tail) same;
+  behind = ap (λ (n : ℕ). take n (take kept moved ++ (tail ++ rest))) held ∙ take-append-add (take kept moved) (tail ++ rest) got ∙ ap (λ (l : List ℕ). take kept moved ++ l) (take-append-le got tail rest few) ∙ ap (λ (l : List ℕ). l ++ take got tail) same;
   ends = ap (λ (n : ℕ). eqb n 0) (sym (length-take-le got tail few));
 }
   where
-    size : kept + got - 0 ≡ length (take kept moved) + got
-    size = omega (arith, length-take-le kept moved room)
+    held : kept + got - 0 ≡ length (take kept moved) + got
+    held = omega (arith, length-take-le kept moved room)
 
 -- A7: a turn prints and leaves what a turn of `fed` does, where the input has ended just when no read is to come.
 pub turn-is-fed : (run next : Run) (input out later-input later-out : List ℕ) (t : Turned run input out next later-input later-out) (reads : List (List ℕ)) → isEnd reads ≡ next .held .ended → (turns : ℕ)

@@ -9,9 +9,12 @@ ghost use mathlib.Core.Path.{_≡_};
 ghost use mathlib.Core.Logic.{_⊎_};
 ghost use Prim.Native.Nat.{_+_, _-_, _≤_, _<_, _^_};
 ghost use lib.ListN.{length, take, drop};
-ghost use Rattle.replay.specs.Turns.{Within, heldIn, waitsFor, ReadBehind, Fetched, Going, Turned};
+ghost use Rattle.records.specs.Lengths.{lengthBound};
+ghost use Rattle.transcript.specs.Steps.{recordRoom};
+ghost use Rattle.replay.specs.Turns.{Within, heldIn, waitsFor, isOver, ReadBehind, Fetched, RoomToRead, Going, Turned};
+ghost use Rattle.replay.specs.WholeRun.{firstRun, WholeRun};
 
-// A loop must end and nothing says that an input does: so many turns, of at least one read or one record each, are more than any run takes.
+// A loop must end and nothing says that an input does. There are never more turns than bytes and reads (`turns-suffice`).
 const MOST_TURNS: u64 = 1_099_511_627_776;
 
 // The bytes of the buffer that are not told yet, and whether more can come.
@@ -40,7 +43,9 @@ fn waits(stop: Stop) -> bool
     }
 }
 
-fn is_over(stop: Stop) -> bool {
+fn is_over(stop: Stop) -> bool
+    ensures { λ r. ⌜ r ≡ isOver stop ⌝ }
+{
     match stop {
         Stop::Full => false,
         Stop::Waits => false,
@@ -69,6 +74,7 @@ fn moved_to_front(bytes: &mut [u8], from: usize, to: usize) -> usize
 
 // One read into the buffer; how many bytes came. A read that fails ends the input like its end.
 fn read_some(bytes: &mut [u8]) -> usize
+    requires { ⌜ 0 < length (now bytes) ⌝ }
     ensures { λ r. ⌜ r ≤ length (now (bytes .entry)) ⌝ }
 {
     let got = libc::read(STDIN_FILENO, bytes);
@@ -78,10 +84,10 @@ fn read_some(bytes: &mut [u8]) -> usize
     io::count(got, bytes)
 }
 
-// One read behind the bytes held. They are fewer than a record's, so there is room for it.
+// One read behind the bytes held. They are fewer than a record can have, so there is room for it.
 fn read_behind(input: &mut [u8], held: Held) -> Held
-    requires { ⌜ Within (length (now input)) held ⌝ }
-    ensures { λ r. ⌜ Within (length (now (input .entry))) r × ReadBehind (heldIn held (now (input .entry))) (heldIn r (now (input .exit))) (r .ended) ⌝ }
+    requires { ⌜ Within (length (now input)) held × (held .to - held .from < length (now input)) ⌝ }
+    ensures { λ r. ⌜ Within (length (now (input .entry))) r × ReadBehind (length (now (input .entry))) (heldIn held (now (input .entry))) (heldIn r (now (input .exit))) (r .ended) ⌝ }
 {
     let kept = moved_to_front(input, held.from, held.to);
     let got = read_some(&mut input[kept..]);
@@ -94,8 +100,8 @@ fn read_behind(input: &mut [u8], held: Held) -> Held
 
 // The bytes for the next telling: one read more where the last one waits for it.
 fn next_held(input: &mut [u8], held: Held, stop: Stop) -> Held
-    requires { ⌜ Within (length (now input)) held ⌝ }
-    ensures { λ r. ⌜ Within (length (now (input .entry))) r × Fetched stop (heldIn held (now (input .entry))) (held .ended) (heldIn r (now (input .exit))) (r .ended) ⌝ }
+    requires { ⌜ Within (length (now input)) held × RoomToRead (length (now input)) held stop ⌝ }
+    ensures { λ r. ⌜ Within (length (now (input .entry))) r × Fetched stop (length (now (input .entry))) (heldIn held (now (input .entry))) (held .ended) (heldIn r (now (input .exit))) (r .ended) ⌝ }
 {
     if waits(stop) {
         return read_behind(input, held);
@@ -117,7 +123,7 @@ fn print(text: &[u8], stop: Stop) -> Stop
 
 // A turn: a read where the last telling waits for one, the bytes held told, and what was told printed.
 fn turned(run: Run, input: &mut [u8], output: &mut [u8]) -> Run
-    requires { ⌜ Going (length (now input)) run × (run .answered + length (now input) < 2 ^ 64) ⌝ }
+    requires { ⌜ Going (length (now input)) run × (lengthBound ≤ length (now input)) × (run .answered + length (now input) < 2 ^ 64) ⌝ }
     ensures { λ r. ⌜ Going (length (now (input .entry))) r × (r .answered ≤ run .answered + length (now (input .entry))) × Turned run (now (input .entry)) (now (output .entry)) r (now (input .exit)) (now (output .exit)) ⌝ }
 {
     let before = run.held;
@@ -144,7 +150,7 @@ fn turned(run: Run, input: &mut [u8], output: &mut [u8]) -> Run
 }
 
 fn first() -> Run
-    ensures { λ r. ⌜ Going 0 r × (r .answered ≡ 0) ⌝ }
+    ensures { λ r. ⌜ r ≡ firstRun ⌝ }
 {
     Run {
         session: Session::fresh(),
@@ -158,18 +164,31 @@ fn first() -> Run
     }
 }
 
-fn main() {
-    let mut input = io::large_buffer();
-    let mut output = io::large_buffer();
+// One turn after the other, until one is over; the run as the last one left it.
+fn all_turns(input: &mut [u8], output: &mut [u8]) -> Run
+    requires { ⌜ (length (now input) ≡ lengthBound) × (recordRoom ≤ length (now output)) ⌝ }
+    ensures { λ r. ⌜ WholeRun (now (input .entry)) (now (output .entry)) r (now (input .exit)) (now (output .exit)) ⌝ }
+{
     let mut run = first();
-    let mut turns = MOST_TURNS;
-    while turns > 0 {
-        let next = turned(run, &mut input, &mut output);
+    let mut left = MOST_TURNS;
+    while left > 0 {
+        let next = turned(run, input, output);
         run = next;
         let stop = run.stop;
         if is_over(stop) {
-            return;
+            return run;
         }
-        turns -= 1;
+        left -= 1;
+    }
+    run
+}
+
+fn main() {
+    let mut input = io::large_buffer();
+    let mut output = io::large_buffer();
+    let last = all_turns(&mut input, &mut output);
+    let stop = last.stop;
+    if !is_over(stop) {
+        say(b"replay: the run's turns are used up; what follows is not told\n");
     }
 }

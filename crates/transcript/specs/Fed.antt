@@ -15,9 +15,10 @@ use Rattle.session.specs.Sound.{Sound, fresh-sound}
 use Rattle.records.specs.declared.{kinds.Record.Record}
 use Rattle.records.specs.Walk.{Walk, Read, recordAt, after, goOn, walkFrom}
 use Rattle.records.specs.Ends.{reads-suffice}
-use Rattle.records.specs.Pieces.{needsMore, settled-read, movedBy, moved-read}
+use Rattle.records.specs.Lengths.{lengthBound}
+use Rattle.records.specs.Pieces.{needsMore, waits-short, settled-read, movedBy, moved-read}
 use Rattle.lines.specs.Put.{put, put-length}
-use Rattle.transcript.specs.declared.{Stop.Stop, Next.Next}
+use Rattle.transcript.specs.declared.{Stop.Stop, Next.Next, Telling.Telling}
 use Rattle.transcript.specs.Transcript.{step, stepLines, lastLines, linesFrom, printed}
 use Rattle.transcript.specs.Steps.{recordRoom}
 use Rattle.transcript.specs.Told.{nextOf, nextTold, Standing, behind, Halt, halt, goTell, tellFrom, recordsTold, textOf, told}
@@ -218,6 +219,44 @@ told-headway room ended bytes s answered h = go (nextTold bytes 0 ended (room - 
   go (Next.Stop why) e w =
       let full : room - 0 < recordRoom = next-reads bytes [] 0 ended (room - 0) (λ x. refl) (e ∙ ap Next.Stop w) in
       absurd (omega arith)
+
+not-waits : (read : Read) → nextOf read ≡ Next.Stop Stop.Waits → ⊥
+not-waits (Read.Record r next) e = let z : _≡_ {A = ℕ} 0 1 = cc in omega arith
+not-waits Read.Fault e = let z : _≡_ {A = ℕ} 0 1 = cc in omega arith
+not-waits Read.End e = let z : _≡_ {A = ℕ} 0 1 = cc in omega arith
+
+next-short : (bytes : List ℕ) (place : ℕ) (ended : Bool) (room : ℕ) → nextTold bytes place ended room ≡ Next.Stop Stop.Waits → length bytes < place + lengthBound
+next-short bytes place ended room e = go (ltb room recordRoom) (needsMore bytes place) ended refl e where
+  go : (full more e : Bool) → needsMore bytes place ≡ more
+      → cond full (Next.Stop Stop.Full) (cond (not e && more) (Next.Stop Stop.Waits) (nextOf (recordAt bytes place))) ≡ Next.Stop Stop.Waits → length bytes < place + lengthBound
+  go true more e p w = let z : _≡_ {A = ℕ} 0 1 = cc in absurd (omega arith)
+  go false true false p w = waits-short bytes place p
+  go false true true p w = absurd (not-waits (recordAt bytes place) w)
+  go false false false p w = absurd (not-waits (recordAt bytes place) w)
+  go false false true p w = absurd (not-waits (recordAt bytes place) w)
+
+-- what it waits with is shorter than a record can be
+told-short : (room : ℕ) (ended : Bool) (bytes : List ℕ) (s : Session) (answered : ℕ) → recordsTold room ended bytes s answered .stop ≡ Stop.Waits
+    → length bytes < recordsTold room ended bytes s answered .standing .place + lengthBound
+told-short room ended bytes s answered =
+    tell-ends room ended bytes (λ u. Unit {0}) (λ h. h .stop ≡ Stop.Waits → length bytes < h .standing .place + lengthBound) (λ u r next g e. tt)
+    (λ u why g e w. next-short bytes (u .place) ended (room - length (u .text)) (e ∙ ap Next.Stop w))
+    (λ u g w. let z : _≡_ {A = ℕ} 0 1 = cc in absurd (omega arith))
+    (suc (length bytes)) (record { session = s; answered = answered; place = 0; text = [] }) tt
+
+-- By why a telling stopped: full only behind a record, and waiting only where bytes are to come, with fewer left than a record can have.
+pub record Stopped (room : ℕ) (ended : Bool) (bytes : List ℕ) (r : Telling) : Type 0 where
+  pub headway : recordRoom ≤ room → r .stop ≡ Stop.Full → 0 < r .place
+  pub more-comes : r .stop ≡ Stop.Waits → ended ≡ false
+  pub short : r .stop ≡ Stop.Waits → length bytes < r .place + lengthBound
+
+pub told-stopped : (s : Session) (answered : ℕ) (bytes : List ℕ) (ended : Bool) (out : List ℕ) → Stopped (length out) ended bytes (told s answered bytes ended out .returned)
+unfolding told
+told-stopped s answered bytes ended out = record {
+  headway = told-headway (length out) ended bytes s answered;
+  more-comes = told-waits (length out) ended bytes s answered;
+  short = told-short (length out) ended bytes s answered;
+}
 
 -- what was written from the front on is read back
 text-back : (out text : List ℕ) → take (length text) (put out 0 text) ≡ text

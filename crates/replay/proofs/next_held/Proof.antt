@@ -8,7 +8,9 @@ waits-requires : tie.Need-waits-requires
 waits-requires c κs = search needs
 
 read-behind-requires : tie.Need-read-behind-requires
-read-behind-requires c κs = search needs
+read-behind-requires c κs =
+    let start = c .before .before .before .before in
+    (start .pre .0, start .pre .1 (sym (c .before .before .waits .ensures) ∙ c .before .if1 .taken))
 
 same-length : tie.Need-same-length
 same-length c = search needs
@@ -18,10 +20,10 @@ returns c =
     let a = c .before .before .before .before .before .before .before .args in
     let waits = c .before .before .before .before .before .waits in
     let if1 = c .before .before .before .before .if1 in
-    (c .before .before .read-behind .ensures .0, fetched-read (a .stop) _ _ _ _ (sym (waits .ensures) ∙ if1 .taken) (c .before .before .read-behind .ensures .1))
+    (c .before .before .read-behind .ensures .0, fetched-read (a .stop) _ _ _ _ _ (sym (waits .ensures) ∙ if1 .taken) (c .before .before .read-behind .ensures .1))
 
 returns-2 : tie.Need-returns-2
-returns-2 c = (c .before .before .before .pre, fetched-none (c .before .before .before .args .stop) _ _ (sym (c .before .waits .ensures) ∙ c .if1 .left))
+returns-2 c = (c .before .before .before .pre .0, fetched-none (c .before .before .before .args .stop) _ _ _ (sym (c .before .waits .ensures) ∙ c .if1 .left))
 
 pub next-held-spec : {M : Type 1} → statement M
 next-held-spec =

@@ -1,4 +1,5 @@
-use Rattle.replay.specs.Turns.{heldIn, read-behind}
+use lib.ListN.{length}
+use Rattle.replay.specs.Turns.{heldIn, held-length, read-behind}
 use native.Mathlib.Omega.{arith}
 use borrow.Author.Needs.{needs}
 use Rattle.replay.proofs.read_behind.Statement.{statement}
@@ -28,8 +29,9 @@ same-length c = search needs
 returns : tie.Need-returns
 returns c =
     let a = c .before .before .before .before .before .before .before .before .before .args in
+    let pre = c .before .before .before .before .before .before .before .before .before .pre in
     let moved-to-front = c .before .before .before .before .before .before .moved-to-front in
-    (search needs, read-behind (heldIn (a .held) (a .input .now)) (moved-to-front .last .0) (c .before .before .read-some .last .0) _ (moved-to-front .result) (c .before .before .read-some .result) (moved-to-front .ensures .1) (omega arith) (omega (arith, c .before .before .read-some .ensures, c .before .before .read-some .kept .0)))
+    (search needs, read-behind (length (a .input .now)) (heldIn (a .held) (a .input .now)) (moved-to-front .last .0) (c .before .before .read-some .last .0) _ (moved-to-front .result) (c .before .before .read-some .result) (omega (arith, held-length (a .held .from) (a .held .to) (a .input .now) (pre .0 .0) (pre .0 .1), pre .1)) (moved-to-front .ensures .1) (omega arith) (omega (arith, c .before .before .read-some .ensures, c .before .before .read-some .kept .0)))
 
 pub read-behind-spec : {M : Type 1} → statement M
 read-behind-spec =

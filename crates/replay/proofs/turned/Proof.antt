@@ -3,7 +3,7 @@ use Prim.Native.Nat.{_≤_}
 use mathlib.Core.Path.{refl, sym}
 use lib.ListN.{length}
 use lib.Seq.{length-take-le}
-use Rattle.replay.specs.Turns.{heldIn, Returns, told-returns, held-left}
+use Rattle.replay.specs.Turns.{heldIn, Returns, telling-waits, told-returns, held-left}
 use native.Mathlib.Omega.{arith}
 use borrow.Author.Needs.{needs}
 use Rattle.replay.proofs.turned.Statement.{statement}
@@ -52,7 +52,7 @@ print-requires c κs = search needs
 add-t18 : tie.Need-add-t18
 add-t18 c =
     let t = c .before .before .before .before .before .before in
-    omega (arith, returned t .place-within, fetched t .next-held .ensures .0 .1, start t .pre .1)
+    omega (arith, returned t .place-within, fetched t .next-held .ensures .0 .1, start t .pre .2)
 
 same-length : tie.Need-same-length
 same-length c = search needs
@@ -65,7 +65,11 @@ returns c =
     let t = c .before .before .before .before .before .before in
     let h = fetched t .next-held in
     let r = returned t in (
-      record { held-within = (r .place-within, h .ensures .0 .1); sound = r .sound },
+      record {
+        held-within = (r .place-within, h .ensures .0 .1);
+        sound = r .sound;
+        room-to-read = λ w. omega (arith, r .short (telling-waits _ (t .told .result .stop) (c .before .before .print .ensures) w), start t .pre .1);
+      },
       omega (arith, r .counted, h .kept .0),
       record {
         bytes = heldIn (h .result) (h .last .0);
@@ -74,6 +78,7 @@ returns c =
         tells = t .told .ensures;
         session = refl;
         answered = refl;
+        same-room = t .told .kept .1 .1 .1 .1 .0;
         left = held-left (h .last .0) (h .result .from) (h .result .to) (t .told .result .place) (r .place-within) (within t);
         stop = c .before .before .print .ensures;
       },
