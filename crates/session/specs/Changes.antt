@@ -1,65 +1,29 @@
--- What an order and a deletion change, from the parts of a session that decide it; and that this is what the calls leave.
-use Prim.Native.Nat.{ℕ, _+_, _/_, _%_, _<_}
-use mathlib.Core.Bool.{Bool, true, false, not, _&&_}
-use mathlib.Core.Logic.{_≢_}
-use mathlib.Core.Path.{_≡_, refl, sym, ap, _∙_}
-use mathlib.Core.List.{List}
-use native.Mathlib.Omega.{arith}
-use borrow.Author.Tests.{leb-false, eqb-false, not-false, ltb-true}
-use lib.ListN.{getD, set}
-use Rattle.terms.specs.Bounds.{places, maxNumber}
-use Rattle.terms.specs.Kinds.{isPlace, isNumber, isMember}
-use Rattle.terms.specs.Orders.{isEntry, orderFrom, restingAs}
-use Rattle.terms.specs.declared.kinds.{Price.Price}
-use Rattle.terms.specs.declared.orders.{Order.Order, Entry.Entry}
-use Rattle.terms.specs.declared.parameters.{Parameters.Parameters}
-use Rattle.places.specs.Places.{wordPlaces, lowestFree, countTaken, isFull, withBit, withoutBit, marked, unmarked}
-use Rattle.places.specs.Words.{lowest-free-room, full-none-free}
-use Rattle.book.specs.declared.Values.{Values}
-use Rattle.book.specs.Columns.{valuesOf, emptyValues, written, stored, cleared}
+-- A change stored in a session; and that what an order and a deletion change is what the calls leave.
+use Prim.Native.Nat.{ℕ, _+_, _/_}
+use mathlib.Core.Bool.{not}
+use mathlib.Core.Path.{_≡_}
+use lib.ListN.{set}
+use Rattle.terms.specs.Bounds.{places}
+use Rattle.terms.specs.Kinds.{isPlace}
+use Rattle.terms.specs.Orders.{orderFrom}
+use Rattle.terms.specs.declared.orders.{Entry.Entry}
+use Rattle.places.specs.Places.{wordPlaces, marked, unmarked}
+use Rattle.book.specs.Columns.{written, stored, cleared}
 use Rattle.book.specs.Resting.{placeOf, isOf, placeIn, place-in}
 use Rattle.book.specs.ByPlace.{any-resting}
-use Rattle.refusals.specs.declared.phases.{Phase.Phase}
-use Rattle.refusals.specs.Checks.{Check, firstHit, answered, answered-refused, answered-done, answered-cases, answered-map, hits, passes}
-use Rattle.refusals.specs.Rows.{orderRows, orderLater, deleteRows, deleteLater}
-use Rattle.refusals.specs.Exactly.{clear}
+use Rattle.refusals.specs.Checks.{answered-map}
+use Rattle.refusals.specs.Rows.{deleteRows}
+use Rattle.effects.specs.declared.{Change.Change, Effect.Effect}
+use Rattle.effects.specs.Effects.{orderChange, orderEffect, deleteChange, deleteEffect}
 use Rattle.session.specs.declared.{Session.Session, Entered.Entered, Deleted.Deleted}
-use Rattle.session.specs.declared.changes.{Change.Change, Effect.Effect}
 use Rattle.session.specs.State.{withBook}
-use Rattle.session.specs.Entry.{controlReference, orderChecks, entered, deleteChecks, deleteRefused, deleteDone, deleted}
+use Rattle.session.specs.Entry.{controlReference, orderChecks, entered, deleteChecks, deleted}
 
 -- a session with a change
 abbrev pub changed : Session → Change → Session
 changed s c = withBook s (c .given) (written (s .book) (set (s .book .taken) (c .place / wordPlaces) (c .word)) (c .place) (c .values))
 
--- an order of this number at the lowest free place
-abbrev pub orderChange : ℕ → List ℕ → Order → Change
-orderChange number taken o = let place = lowestFree taken in record {
-  given = number;
-  place = place;
-  word = withBit (place % wordPlaces) (getD taken (place / wordPlaces) 0);
-  values = valuesOf (restingAs number o);
-}
-
-unfoldable pub orderEffect : Phase → Parameters → Price → ℕ → List ℕ → Entry → Effect
-orderEffect phase p reference given taken e =
-    answered (orderRows phase p reference given (isFull taken) e) Effect.Refused (Effect.Done (orderChange (given + 1) taken (orderFrom e)))
-
--- a place freed
-abbrev pub deleteChange : ℕ → List ℕ → ℕ → Change
-deleteChange given taken place = record {
-  given = given;
-  place = place;
-  word = withoutBit (place % wordPlaces) (getD taken (place / wordPlaces) 0);
-  values = emptyValues;
-}
-
--- of the order that stands at the place, or nowhere
-unfoldable pub deleteEffect : Phase → ℕ → List ℕ → ℕ → ℕ → ℕ → Effect
-deleteEffect phase given taken place number member =
-    answered (deleteRows phase number member (not (isPlace place))) Effect.Refused (Effect.Done (deleteChange given taken place))
-
--- .. in a session
+-- what an order and a deletion change in a session
 abbrev pub orderIn : Session → Entry → Effect
 orderIn s e = orderEffect (s .phase) (s .parameters) (controlReference s) (s .given) (s .book .taken) e
 
@@ -90,79 +54,3 @@ module _ (s : Session) (number member : ℕ) where
   deleted-by =
       rw (delete-rows, place-in (s .book) number member)
       (answered-map (deletedBy s) (deleteChecks s number member) Effect.Refused (Effect.Done (deleteChange (s .given) (s .book .taken) (placeOf (isOf number member) (s .book)))))
-
--- ---- the effects from what the code learns on the way
--- a change is at a place, where every one that is done is
-placed : (checks : List Check) (done : Change) → (0 ≡ firstHit checks → done .place < places) → {c : Change} → answered checks Effect.Refused (Effect.Done done) ≡ Effect.Done c → c .place < places
-placed checks done here {c} =
-    answered-cases checks Effect.Refused (Effect.Done done) (λ (f : Effect). f ≡ Effect.Done c → c .place < places)
-    (λ n h e i. absurd (let z : _≡_ {A = ℕ} 0 1 = cc in omega arith))
-    (λ e i. let same : done .place ≡ c .place = ap placeOf′ i in rw (← same) (here e)) where
-      placeOf′ : Effect → ℕ
-      placeOf′ (Effect.Refused n) = 0
-      placeOf′ (Effect.Done c) = c .place
-
--- an entry that is made an order passes check 1, and one that isn't hits it
-module _ (phase : Phase) (p : Parameters) (reference : Price) (given : ℕ) (taken : List ℕ) (e : Entry) where
-  abbrev rows : List Check
-  rows = orderRows phase p reference given (isFull taken) e
-
-  pub order-place : {c : Change} → orderEffect phase p reference given taken e ≡ Effect.Done c → c .place < places
-  unfolding orderEffect
-  order-place = placed rows (orderChange (given + 1) taken (orderFrom e)) (λ h. lowest-free-room taken (eqb-false (countTaken taken) places (clear rows tt h 10)))
-
-  pub order-out-of-range : isEntry e ≡ false → Effect.Refused 1 ≡ orderEffect phase p reference given taken e
-  unfolding orderEffect
-  order-out-of-range h = answered-refused rows Effect.Refused _ (hits 1 _ (rw h)) (λ z. omega arith)
-
-  module _ {o : Order} (good : (isEntry e ≡ true) × (o ≡ orderFrom e)) {place n : ℕ} {left : Bool} (free : place ≡ lowestFree taken) (is-left : left ≡ isPlace place)
-      (hit : n ≡ firstHit (orderLater phase p reference given (not left) o)) where
-    order-hit : n ≡ firstHit rows
-    order-hit = passes 1 _ (rw (good .0)) (rw (good .1, is-left, free, full-none-free taken) at hit)
-
-    pub order-turned-down : n ≢ 0 → Effect.Refused n ≡ orderEffect phase p reference given taken e
-    unfolding orderEffect
-    order-turned-down h = answered-refused rows Effect.Refused _ order-hit h
-
-    module _ (z : n ≡ 0) where
-      pub number-left : given < maxNumber
-      number-left = leb-false maxNumber given (clear rows tt (sym z ∙ order-hit) 9)
-
-      pub place-left : place < places
-      place-left = rw free (lowest-free-room taken (eqb-false (countTaken taken) places (clear rows tt (sym z ∙ order-hit) 10)))
-
-      pub order-done : {word : ℕ} {values : Values} → word ≡ withBit (place % wordPlaces) (getD taken (place / wordPlaces) 0) → values ≡ valuesOf (restingAs (given + 1) o)
-          → Effect.Done (record { given = given + 1; place = place; word = word; values = values }) ≡ orderEffect phase p reference given taken e
-      unfolding orderEffect
-      order-done bits same = rw (bits, free, same, good .1) (answered-done rows Effect.Refused (Effect.Done (orderChange (given + 1) taken (orderFrom e))) (sym z ∙ order-hit))
-
-module _ (phase : Phase) (given : ℕ) (taken : List ℕ) (place number member : ℕ) where
-  abbrev deletions : List Check
-  deletions = deleteRows phase number member (not (isPlace place))
-
-  found : 0 ≡ firstHit deletions → place < places
-  found h = ltb-true place places (not-false _ (clear deletions tt h 11))
-
-  pub delete-place : {c : Change} → deleteEffect phase given taken place number member ≡ Effect.Done c → c .place < places
-  unfolding deleteEffect
-  delete-place = placed deletions (deleteChange given taken place) found
-
-  pub delete-out-of-range : isNumber number && isMember member ≡ false → Effect.Refused 1 ≡ deleteEffect phase given taken place number member
-  unfolding deleteEffect
-  delete-out-of-range h = answered-refused deletions Effect.Refused _ (hits 1 _ (rw h)) (λ z. omega arith)
-
-  module _ (good : isNumber number && isMember member ≡ true) {n : ℕ} (hit : n ≡ firstHit (deleteLater phase (not (isPlace place)))) where
-    delete-hit : n ≡ firstHit deletions
-    delete-hit = passes 1 _ (rw good) hit
-
-    pub delete-turned-down : n ≢ 0 → Effect.Refused n ≡ deleteEffect phase given taken place number member
-    unfolding deleteEffect
-    delete-turned-down h = answered-refused deletions Effect.Refused _ delete-hit h
-
-    pub delete-room : n ≡ 0 → place < places
-    delete-room z = found (sym z ∙ delete-hit)
-
-    pub delete-done : n ≡ 0 → {word : ℕ} → word ≡ withoutBit (place % wordPlaces) (getD taken (place / wordPlaces) 0) → {values : Values} → values ≡ emptyValues
-        → Effect.Done (record { given = given; place = place; word = word; values = values }) ≡ deleteEffect phase given taken place number member
-    unfolding deleteEffect
-    delete-done z w v = rw (w, v) (answered-done deletions Effect.Refused (Effect.Done (deleteChange given taken place)) (sym z ∙ delete-hit))

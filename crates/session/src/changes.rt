@@ -1,102 +1,15 @@
-// What an order and a deletion change, found from the parts of a session that decide it. Whoever holds a session stores it in place.
+// A change stored in a session.
 use crate::Session;
-use book::Values;
 use book::put8;
 use book::put16;
 use book::put32;
+use effects::Change;
 use places::WORD_PLACES;
-use places::WORDS;
 use places::put_word;
-use places::with_bit;
-use places::without_bit;
-use refusals::Phase;
-use terms::Entry;
-use terms::Member;
-use terms::MemberMade;
-use terms::Number;
-use terms::NumberMade;
-use terms::Order;
-use terms::OrderMade;
-use terms::Parameters;
-use terms::Place;
-use terms::Price;
 ghost use mathlib.Core.Path.{_≡_};
 ghost use Prim.Native.Nat.{_<_};
 ghost use Rattle.terms.specs.Bounds.{places};
-ghost use Rattle.session.specs.Changes.{changed as Changes·changed, orderEffect, deleteEffect};
-
-// The last number given, a word of the places, and the values at a place.
-pub struct Change {
-    pub given: u32,
-    pub place: usize,
-    pub word: u64,
-    pub values: Values,
-}
-
-pub enum Effect {
-    Refused(u8),
-    Done(Change),
-}
-
-// Order: refusals 1, 2, 4, 5, 6, 7, 8, 9, 10. An accepted order takes the next number and the lowest free place.
-pub fn order_effect(
-    phase: Phase,
-    parameters: Parameters,
-    reference: Price,
-    given: u32,
-    taken: &[u64; WORDS],
-    e: Entry,
-) -> Effect
-    ensures { λ r. ⌜ r ≡ orderEffect phase parameters reference given (now (taken .entry)) e ⌝ }
-{
-    let OrderMade::Good(o) = Order::new(e) else {
-        return Effect::Refused(1);
-    };
-    let place = places::lowest_free(taken);
-    let left = Place::holds(place);
-    let answer = refusals::order_refusal(phase, parameters, reference, given, !left, o);
-    if answer != 0 {
-        return Effect::Refused(answer);
-    }
-    let number = given + 1;
-    let word = with_bit(taken[place / WORD_PLACES], place % WORD_PLACES);
-    Effect::Done(Change {
-        given: number,
-        place,
-        word,
-        values: book::values_of(number, o),
-    })
-}
-
-// Delete: refusals 1, 2, 11. The order asked for stands at the place, or nowhere; its place is free at once.
-pub fn delete_effect(
-    phase: Phase,
-    given: u32,
-    taken: &[u64; WORDS],
-    place: usize,
-    number: u32,
-    member: u16,
-) -> Effect
-    ensures { λ r. ⌜ r ≡ deleteEffect phase given (now (taken .entry)) place number member ⌝ }
-{
-    let NumberMade::Good(_) = Number::new(number) else {
-        return Effect::Refused(1);
-    };
-    let MemberMade::Good(_) = Member::new(member) else {
-        return Effect::Refused(1);
-    };
-    let answer = refusals::delete_refusal(phase, place);
-    if answer != 0 {
-        return Effect::Refused(answer);
-    }
-    let word = without_bit(taken[place / WORD_PLACES], place % WORD_PLACES);
-    Effect::Done(Change {
-        given,
-        place,
-        word,
-        values: Values::empty(),
-    })
-}
+ghost use Rattle.session.specs.Changes.{changed as Changes·changed};
 
 impl Session {
     // By value; a loop that holds a session makes the same stores in its own.

@@ -4,10 +4,9 @@ mod auctions;
 mod changes;
 
 use book::Book;
-pub use changes::Change;
-pub use changes::Effect;
-pub use changes::delete_effect;
-pub use changes::order_effect;
+use effects::Effect;
+use effects::delete_effect;
+use effects::order_effect;
 use refusals::Phase;
 use terms::Auction;
 use terms::AuctionMade;

@@ -29,9 +29,10 @@ use Rattle.transcript.specs.Transcript.{Step, step, stepLines, lent, ord
 use Rattle.terms.specs.declared.kinds.{Price.Price}
 use Rattle.terms.specs.declared.parameters.{Parameters.Parameters}
 use Rattle.refusals.specs.declared.phases.{Phase.Phase}
-use Rattle.session.specs.declared.changes.{Change.Change, Effect.Effect}
+use Rattle.effects.specs.declared.{Change.Change, Effect.Effect}
+use Rattle.effects.specs.Effects.{orderEffect, deleteEffect, order-place, delete-place}
 use Rattle.session.specs.Entry.{controlReference, entered, deleted}
-use Rattle.session.specs.Changes.{changed, orderEffect, deleteEffect, orderIn, deleteIn, enteredBy, deletedBy, entered-by, deleted-by, order-place, delete-place}
+use Rattle.session.specs.Changes.{changed, orderIn, deleteIn, enteredBy, deletedBy, entered-by, deleted-by}
 use Rattle.lines.specs.declared.{words.Word.Word, Line.Line}
 
 -- the session after a step, and the lines of the record at its place from 1 written into the buffer

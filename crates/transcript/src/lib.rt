@@ -2,9 +2,9 @@
 mod steps;
 mod tell;
 
+use effects::Change;
 use lines::Word;
 use records::Record;
-use session::Change;
 use session::Session;
 pub use tell::told;
 pub use tell::transcribed;

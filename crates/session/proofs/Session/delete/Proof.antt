@@ -1,5 +1,6 @@
-use Rattle.session.specs.declared.changes.{Effect.Effect}
-use Rattle.session.specs.Changes.{deleteIn, deletedBy, deleted-by, delete-place}
+use Rattle.effects.specs.declared.{Effect.Effect}
+use Rattle.effects.specs.Effects.{delete-place}
+use Rattle.session.specs.Changes.{deleteIn, deletedBy, deleted-by}
 use mathlib.Core.Path.{_≡_, sym, ap, _∙_}
 use borrow.Author.Needs.{needs}
 use Rattle.session.proofs.Session.delete.Statement.{statement}

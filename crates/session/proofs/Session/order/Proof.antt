@@ -1,4 +1,5 @@
-use Rattle.session.specs.Changes.{enteredBy, entered-by, order-place}
+use Rattle.effects.specs.Effects.{order-place}
+use Rattle.session.specs.Changes.{enteredBy, entered-by}
 use mathlib.Core.Path.{sym, ap, _∙_}
 use native.Mathlib.Omega.{arith}
 use borrow.Author.Needs.{needs}

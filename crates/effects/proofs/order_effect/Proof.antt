@@ -4,9 +4,9 @@ use native.Mathlib.Omega.{arith}
 use borrow.Author.Needs.{needs}
 use Rattle.terms.specs.Made.{order-good, order-refused}
 use Rattle.terms.specs.Orders.{isEntry, orderFrom}
-use Rattle.session.specs.Changes.{order-out-of-range, order-turned-down, number-left, place-left, order-done}
-use Rattle.session.proofs.changes.order_effect.Statement.{statement}
-use Rattle.session.proofs.changes.order_effect.Tie as tie
+use Rattle.effects.specs.Effects.{order-out-of-range, order-turned-down, number-left, place-left, order-done}
+use Rattle.effects.proofs.order_effect.Statement.{statement}
+use Rattle.effects.proofs.order_effect.Tie as tie
 
 abbrev start : tie.After-known-told → tie.Start
 start k = k .before .before .before .before

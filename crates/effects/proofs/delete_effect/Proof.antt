@@ -4,9 +4,9 @@ use native.Mathlib.Omega.{arith}
 use borrow.Author.Needs.{needs}
 use Rattle.terms.specs.Kinds.{isNumber, isMember}
 use Rattle.terms.specs.Made.{number-good, number-refused, member-good, member-refused}
-use Rattle.session.specs.Changes.{delete-out-of-range, delete-turned-down, delete-room, delete-done}
-use Rattle.session.proofs.changes.delete_effect.Statement.{statement}
-use Rattle.session.proofs.changes.delete_effect.Tie as tie
+use Rattle.effects.specs.Effects.{delete-out-of-range, delete-turned-down, delete-room, delete-done}
+use Rattle.effects.proofs.delete_effect.Statement.{statement}
+use Rattle.effects.proofs.delete_effect.Tie as tie
 
 abbrev start : tie.After-enum-told3 → tie.Start
 start k = k .before .before .before .before .before .before
