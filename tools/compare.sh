@@ -1,8 +1,10 @@
 #!/bin/sh
-# compare.sh [N]: the session program and the second one on session files made by seed: what they print must be the same bytes.
-# The fixed set, in which every rule has to come up; or with N the last-number session and seeds 1 to N.
+# compare.sh [N]: the engine's programs and the second one on session files made by seed: what they print must be the same bytes.
+# First the session program, then the looks, which print what the calls that change nothing answer meanwhile.
+# The fixed sets, in which every rule has to come up; or with N the last-number session and seeds 1 to N, the looks on the latter.
 cd "$(dirname "$0")/.." || exit 1
-program=target/bin/replay
+session=target/bin/replay
+looks=target/bin/looks
 made=target/compare
 fail() {
     echo "compare: $*" >&2
@@ -14,7 +16,9 @@ if ! command -v rustc >/dev/null 2>&1; then
     [ "$ALLOW_NO_RUSTC" = 1 ]
     exit
 fi
-[ -x "$program" ] || fail "no program $program"
+for program in "$session" "$looks"; do
+    [ -x "$program" ] || fail "no program $program"
+done
 
 # Each with plain rustc: no cache of Cargo's is needed.
 mkdir -p "$made" || exit 1
@@ -31,9 +35,12 @@ fi
 # shellcheck source=tools/x86.sh
 . tools/x86.sh
 words=$(x86words) || exit 1
-engine="$words $program"
 # A program that hangs differs, too.
-command -v timeout >/dev/null 2>&1 && engine="timeout 300 $engine"
+command -v timeout >/dev/null 2>&1 && words="timeout 300 $words"
 
-set -- ${1:+--seeds "0..$(($1 + 1))"}
-exec "$made/compare" "$@" --engine "$engine" --second "$made/second" --keep "$made/differences"
+# compare WORD..: with the engine's program and, if any, the seeds
+compare() {
+    "$made/compare" "$@" --second "$made/second" --keep "$made/differences"
+}
+compare ${1:+--seeds "0..$(($1 + 1))"} --engine "$words $session" || exit
+compare ${1:+--seeds "1..$(($1 + 1))"} --looks "$words $looks"

@@ -5,9 +5,12 @@ use crate::records::*;
 use std::cmp::min;
 use std::collections::BTreeMap;
 
-/// What has to come up: answers by word, outcomes, faults, and the rules of "The price". Refusal 12
-/// cannot: the programs lend every auction a list that is long enough.
-const RULES: [(&str, &[&str]); 8] = [
+/// What has to come up, by word.
+pub type Rules = [(&'static str, &'static [&'static str])];
+
+/// Answers by word, outcomes, faults, and the rules of "The price". Refusal 12 cannot come up: the
+/// programs lend every auction a list that is long enough.
+pub const RULES: &Rules = &[
     ("start", &["0", "1", "3"]),
     ("order", &["0", "1", "2", "4", "5", "6", "7", "8", "9", "10"]),
     ("delete", &["0", "1", "2", "11"]),
@@ -109,7 +112,7 @@ impl Followed {
 pub struct Counts(BTreeMap<String, u64>);
 
 impl Counts {
-    fn add(&mut self, word: &str, rule: &str) {
+    pub fn add(&mut self, word: &str, rule: &str) {
         *self.0.entry(format!("{word} {rule}")).or_default() += 1;
     }
 
@@ -119,8 +122,8 @@ impl Counts {
         }
     }
 
-    /// Counts what came up in a file, by the lines printed for it.
-    pub fn count(&mut self, file: &[u8], lines: &str) {
+    /// Counts what came up in a session file, by the lines printed for it.
+    pub fn session(&mut self, file: &[u8], lines: &str) {
         let (records, rest) = walk(file);
         let (mut records, mut followed) = (records.iter(), Followed::default());
         for line in lines.lines() {
@@ -143,12 +146,12 @@ impl Counts {
         }
     }
 
-    /// Prints how often each rule came up. Answers those that never did, and what is no rule of 01.
-    pub fn print(&self) -> (Vec<String>, Vec<String>) {
+    /// Prints how often each rule came up. Answers those that never did, and what is none of them.
+    pub fn print(&self, rules: &Rules) -> (Vec<String>, Vec<String>) {
         let (mut never, mut others) = (Vec::new(), self.0.clone());
-        for (word, rules) in RULES {
+        for (word, rules) in rules {
             print!("{word:>16}:");
-            for rule in rules {
+            for rule in *rules {
                 let times = others.remove(&format!("{word} {rule}")).unwrap_or(0);
                 print!(" {rule} × {times}{}", if Some(rule) == rules.last() { "\n" } else { "," });
                 if times == 0 {

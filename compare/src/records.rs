@@ -10,6 +10,8 @@ pub const VALUE_MAX: u64 = 1_000_000_000_000_000;
 pub const NUMBER_MAX: u64 = 1_000_000;
 pub const MEMBER_MAX: u64 = 65_535;
 pub const PLACES: u64 = 512;
+/// What `looks` takes of its input for the whole file.
+pub const LOOKED_AT: usize = 65_536;
 
 // Kinds of records, and what stands for a side, a validity, no limit and an auction.
 pub const START: usize = 1;

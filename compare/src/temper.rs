@@ -87,6 +87,53 @@ pub fn session_file(seed: u64) -> (&'static str, Vec<u8>) {
     (name, maker.file)
 }
 
+/// The same with looks between the records: auctions with a byte that names none are answered 1 and
+/// change nothing, but `looks` looks before each. Few files are longer than what it takes of them.
+pub fn looks_file(seed: u64) -> (&'static str, Vec<u8>) {
+    let (name, mut session) = session_file(seed);
+    session.truncate(LOOKED_AT + 1_000);
+    // Dice of its own: the file's have rolled from the seed itself.
+    let (mut dice, mut file) = (Dice(!seed), Vec::new());
+    let (records, rest) = walk(&session);
+    // Before each record of a short file, and some forty times in a long one.
+    let times = 1 + records.len() as u64 / 40;
+    let to_the_bound = dice.once_in(2);
+    for record in records {
+        if dice.once_in(times) {
+            look(&mut dice, &mut file);
+        }
+        if to_the_bound && (64..100).contains(&LOOKED_AT.saturating_sub(file.len())) {
+            fill(&mut dice, &mut file);
+        }
+        record.pack(&mut file);
+    }
+    file.extend(rest);
+    if rest.is_empty() && dice.once_in(8) {
+        // A fault has the last look alone, though it is an auction's.
+        look(&mut dice, &mut file);
+        file.pop();
+    }
+    let behind = dice.one_of(&[0, 1, 1_000]);
+    file.truncate(LOOKED_AT + behind);
+    (name, file)
+}
+
+fn look(dice: &mut Dice, file: &mut Vec<u8>) {
+    let byte = dice.one_of(&[0, 3, 9, 255]);
+    Record { kind: AUCTION, values: [byte, 0, 0, 0, 0] }.pack(file);
+}
+
+/// Looks up to the bound exactly. They have 5 bytes; up to four orders of zeros, which change
+/// nothing either, have 16 each and make up the remainder.
+fn fill(dice: &mut Dice, file: &mut Vec<u8>) {
+    for _ in 0..(LOOKED_AT - file.len()) % 5 {
+        Record { kind: ORDER, values: [0; 5] }.pack(file);
+    }
+    while file.len() < LOOKED_AT {
+        look(dice, file);
+    }
+}
+
 /// Members go by order numbers, so that a deletion can name the right one.
 fn member(number: u64) -> u64 {
     1 + number % 3

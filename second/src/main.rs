@@ -1,11 +1,17 @@
-//! Reads a session file on standard input and prints what happened, by the rules of 01.
+//! Reads a session file on standard input and prints what happened, by the rules of 01:
+//!
+//!     second [--looks]
+//!
+//! With --looks it prints what the calls that change nothing answer meanwhile, see looks.rs.
 //! Comments cite the sections of 01. Every number is a u64: the largest products are near
-//! 10^15 and the largest sum is that of 512 quantities, so nothing overflows.
+//! 10^15 and the largest sum is that of 512 quantities, so nothing overflows. The entries of
+//! a filled front are the exception: they are summed as u128.
 
 use std::cmp::{min, Ordering};
 use std::io::{self, Read, Write};
 use std::ops::RangeInclusive;
 
+mod looks;
 #[cfg(test)]
 mod tests;
 
@@ -82,6 +88,13 @@ struct Answer {
     trades: Vec<Trade>,
 }
 
+impl Answer {
+    /// "Outcomes" 2 and 3 give zeros.
+    fn zeros(outcome: u64) -> Answer {
+        Answer { outcome, price: 0, quantity: 0, trades: vec![] }
+    }
+}
+
 /// A number of "Refusals by number".
 type Refusal = u64;
 
@@ -91,6 +104,24 @@ fn refuse(number: Refusal, hit: bool) -> Result<(), Refusal> {
         Err(number)
     } else {
         Ok(())
+    }
+}
+
+/// The side that a field or an argument names.
+fn side_of(side: u64) -> Result<Side, Refusal> {
+    match side {
+        1 => Ok(Side::Buy),
+        2 => Ok(Side::Sell),
+        _ => Err(1),
+    }
+}
+
+/// The auction that a field or an argument names.
+fn auction_of(auction: u64) -> Result<Auction, Refusal> {
+    match auction {
+        1 => Ok(Auction::Opening),
+        2 => Ok(Auction::Closing),
+        _ => Err(1),
     }
 }
 
@@ -141,11 +172,7 @@ impl Session {
     fn order(&mut self, fields: [u64; 5]) -> Result<u64, Refusal> {
         let [member, side, validity, quantity, limit] = fields;
         refuse(1, !MEMBER.contains(&member))?;
-        let side = match side {
-            1 => Side::Buy,
-            2 => Side::Sell,
-            _ => return Err(1),
-        };
+        let side = side_of(side)?;
         refuse(1, !VALIDITY.contains(&validity))?;
         refuse(1, !QUANTITY.contains(&quantity))?;
         // "Session file", kind 2: limit 0 means unlimited.
@@ -185,53 +212,84 @@ impl Session {
 
     /// "Order of checks", auction: 1, 2, 4. The list is always long enough here, so no 12.
     fn auction(&mut self, [auction]: [u64; 1]) -> Result<Answer, Refusal> {
-        let auction = match auction {
-            1 => Auction::Opening,
-            2 => Auction::Closing,
-            _ => return Err(1),
-        };
+        let auction = self.allowed(auction)?;
+        let answer = self.foresee(auction);
+        match answer.outcome {
+            // "Outcomes" 3: nothing changes.
+            NON_OPENING => {}
+            // "Outcomes" 4: only the mark that the delay is spent changes.
+            DELAYED_OPENING => self.delay_spent = true,
+            _ => self.carry_out(auction, &answer),
+        }
+        Ok(answer)
+    }
+
+    /// "Order of checks", theoretical answer: 1, 2, 4. The auction's answer, with no change.
+    fn theoretical(&self, auction: u64) -> Result<Answer, Refusal> {
+        let auction = self.allowed(auction)?;
+        Ok(self.foresee(auction))
+    }
+
+    /// Checks 1, 2 and 4 of an auction, which are those of the theoretical answer too.
+    fn allowed(&self, auction: u64) -> Result<Auction, Refusal> {
+        let auction = auction_of(auction)?;
         refuse(2, self.phase == Phase::Fresh)?;
         // Phase rules: an opening auction only in pre-opening, a closing auction only in day.
         refuse(4, auction == Auction::Opening && self.phase != Phase::PreOpening)?;
         refuse(4, auction == Auction::Closing && self.phase != Phase::Day)?;
+        Ok(auction)
+    }
 
+    /// "Outcomes": what an auction answers now, with its trades.
+    fn foresee(&self, auction: Auction) -> Answer {
         let orders = self.taking_part(auction);
         let found = find_price(&orders, self.reference);
 
         if auction == Auction::Opening {
-            // "Outcomes": Non Opening comes before Delayed Opening; nothing changes.
+            // "Outcomes": Non Opening comes before Delayed Opening.
             let highest = found.map_or(0, |(_, executable)| executable);
             if unlimited(&orders, Side::Buy) > highest || unlimited(&orders, Side::Sell) > highest {
-                return Ok(Answer { outcome: NON_OPENING, price: 0, quantity: 0, trades: vec![] });
+                return Answer::zeros(NON_OPENING);
             }
-            // "Outcomes": Delayed Opening, "or more"; only the mark that it is spent changes.
+            // "Outcomes": Delayed Opening, "or more".
             let delays = |&(price, _): &(u64, u64)| {
                 !self.delay_spent
                     && price.abs_diff(self.reference) * 10_000 >= self.threshold * self.reference
             };
             if let Some((price, quantity)) = found.filter(delays) {
-                self.delay_spent = true;
-                return Ok(Answer { outcome: DELAYED_OPENING, price, quantity, trades: vec![] });
+                return Answer { outcome: DELAYED_OPENING, price, quantity, trades: vec![] };
             }
         }
 
-        let answer = match found {
-            Some((price, quantity)) => {
-                let trades = pair(&orders, quantity);
-                self.take_off(&trades);
-                self.reference = price;
-                Answer { outcome: TRADES, price, quantity, trades }
-            }
-            None => Answer { outcome: NO_TRADES, price: 0, quantity: 0, trades: vec![] },
-        };
-        // "Outcomes" 1 and 2: rests are deleted by validity; "Phases": the phase moves on.
+        let Some((price, quantity)) = found else { return Answer::zeros(NO_TRADES) };
+        Answer { outcome: TRADES, price, quantity, trades: pair(&orders, quantity) }
+    }
+
+    /// "Outcomes" 1 and 2: trades, rests that are deleted by validity, and the next phase.
+    fn carry_out(&mut self, auction: Auction, answer: &Answer) {
+        if answer.outcome == TRADES {
+            self.take_off(&answer.trades);
+            self.reference = answer.price;
+        }
         let (deleted, next): (&[u64], Phase) = match auction {
             Auction::Opening => (&[AT_THE_OPENING], Phase::Day),
             Auction::Closing => (&[AT_THE_OPENING, AT_THE_CLOSE, DAY], Phase::Closed),
         };
         self.delete_rests(deleted);
         self.phase = next;
-        Ok(answer)
+    }
+
+    /// "Order of checks", ranked queue: 1, 2, 12. Given in any started phase; writes the order
+    /// numbers to the front of the list and answers how many.
+    fn ranked(&self, side: u64, auction: u64, list: &mut [u64]) -> Result<usize, Refusal> {
+        let (side, auction) = (side_of(side)?, auction_of(auction)?);
+        refuse(2, self.phase == Phase::Fresh)?;
+        refuse(12, list.len() < PLACES)?;
+        let queue = queue(&self.taking_part(auction), side);
+        for (entry, order) in list.iter_mut().zip(&queue) {
+            *entry = order.number;
+        }
+        Ok(queue.len())
     }
 
     /// "Who takes part": at the opening all but validity 2, at the closing all.
@@ -375,6 +433,23 @@ fn pair(orders: &[Order], executable: u64) -> Vec<Trade> {
     trades
 }
 
+/// "Filled front": the longest front part of the side's list with a sum of at most the total.
+fn filled_front([buys, sells]: [&[u64]; 2], side: u64, total: u64) -> Result<&[u64], Refusal> {
+    refuse(1, buys.len() > PLACES || sells.len() > PLACES)?;
+    let list = match side_of(side)? {
+        Side::Buy => buys,
+        Side::Sell => sells,
+    };
+    // Sums never wrap: 512 entries of 64 bits are far below 2^128.
+    let mut sum = 0;
+    let fits = |&&entry: &&u64| {
+        sum += u128::from(entry);
+        sum <= u128::from(total)
+    };
+    let length = list.iter().take_while(fits).count();
+    Ok(&list[..length])
+}
+
 /// "Session file": the little-endian number in these bytes, at most eight.
 fn number(bytes: &[u8]) -> u64 {
     bytes.iter().rev().fold(0, |number, &byte| number << 8 | u64::from(byte))
@@ -390,29 +465,56 @@ fn fields<const N: usize>(mut part: &[u8], sizes: [usize; N]) -> Option<[u64; N]
     Some(fields)
 }
 
-/// "Session file": what the first record prints after its place, and the file behind it.
+/// "Session file": a record with its fields, by its kind.
+enum Record {
+    Start([u64; 5]),
+    Order([u64; 5]),
+    Delete([u64; 2]),
+    Auction([u64; 1]),
+}
+
+/// "Session file": the first record, and the file behind it.
 /// None for a record that ends the walk: unknown kind, a length not the kind's, or cut.
-fn answer<'a>(session: &mut Session, file: &'a [u8]) -> Option<(String, &'a [u8])> {
+fn first_record(file: &[u8]) -> Option<(Record, &[u8])> {
     let (length, kind) = (number(file.get(0..2)?) as usize, number(file.get(2..4)?));
-    if !matches!((kind, length), (1, 24) | (2, 16) | (3, 10) | (4, 5)) {
-        return None;
-    }
     // Fields are read from the part that starts at the record's fifth byte.
     let part = file.get(4..length)?;
-    let lines = match kind {
-        1 => match session.start(fields(part, [4, 4, 2, 2, 8])?) {
+    let record = match (kind, length) {
+        (1, 24) => Record::Start(fields(part, [4, 4, 2, 2, 8])?),
+        (2, 16) => Record::Order(fields(part, [2, 1, 1, 4, 4])?),
+        (3, 10) => Record::Delete(fields(part, [4, 2])?),
+        (4, 5) => Record::Auction(fields(part, [1])?),
+        _ => return None,
+    };
+    Some((record, file.get(length..)?))
+}
+
+/// "Session file": the records one by one, and whether a fault ended the walk.
+fn walk(file: &[u8]) -> (Vec<Record>, bool) {
+    let (mut records, mut rest) = (Vec::new(), file);
+    while let Some((record, behind)) = first_record(rest) {
+        records.push(record);
+        rest = behind;
+    }
+    (records, !rest.is_empty())
+}
+
+/// "Session file": what a record prints after its place.
+fn answer(session: &mut Session, record: &Record) -> String {
+    match *record {
+        Record::Start(fields) => match session.start(fields) {
             Ok(()) => "start 0\n".to_string(),
             Err(refusal) => format!("start {refusal}\n"),
         },
-        2 => match session.order(fields(part, [2, 1, 1, 4, 4])?) {
+        Record::Order(fields) => match session.order(fields) {
             Ok(number) => format!("order 0 {number}\n"),
             Err(refusal) => format!("order {refusal} 0\n"),
         },
-        3 => match session.delete(fields(part, [4, 2])?) {
+        Record::Delete(fields) => match session.delete(fields) {
             Ok(()) => "delete 0\n".to_string(),
             Err(refusal) => format!("delete {refusal}\n"),
         },
-        _ => match session.auction(fields(part, [1])?) {
+        Record::Auction(fields) => match session.auction(fields) {
             Ok(Answer { outcome, price, quantity, trades }) => {
                 let count = trades.len();
                 let mut lines = format!("auction 0 {outcome} {price} {quantity} {count}\n");
@@ -423,29 +525,34 @@ fn answer<'a>(session: &mut Session, file: &'a [u8]) -> Option<(String, &'a [u8]
             }
             Err(refusal) => format!("auction {refusal} 0 0 0 0\n"),
         },
-    };
-    Some((lines, file.get(length..)?))
+    }
 }
 
-/// "Session file": walks the records one by one; a fault ends the walk and isn't counted.
+/// "Session file": the lines of a whole file; a fault ends them and isn't counted.
 fn run(file: &[u8]) -> String {
-    let mut session = Session::fresh();
-    let (mut lines, mut answered, mut rest) = (String::new(), 0u64, file);
-    while !rest.is_empty() {
-        let place = answered + 1;
-        let Some((text, behind)) = answer(&mut session, rest) else {
-            lines += &format!("{place} fault 1\n");
-            break;
-        };
-        lines += &format!("{place} {text}");
-        answered = place;
-        rest = behind;
+    let (records, fault) = walk(file);
+    let (mut session, mut lines, answered) = (Session::fresh(), String::new(), records.len());
+    for (place, record) in (1..).zip(&records) {
+        lines += &format!("{place} {}", answer(&mut session, record));
+    }
+    if fault {
+        lines += &format!("{} fault 1\n", answered + 1);
     }
     lines + &format!("end {answered}\n")
 }
 
 fn main() -> io::Result<()> {
-    let mut file = Vec::new();
-    io::stdin().read_to_end(&mut file)?;
-    io::stdout().write_all(run(&file).as_bytes())
+    let (mut file, word) = (Vec::new(), std::env::args().nth(1));
+    let lines = match word.as_deref() {
+        None => {
+            io::stdin().read_to_end(&mut file)?;
+            run(&file)
+        }
+        Some("--looks") => {
+            io::stdin().take(looks::LONGEST).read_to_end(&mut file)?;
+            looks::looks(&file)
+        }
+        Some(word) => return Err(io::Error::other(format!("no option {word}"))),
+    };
+    io::stdout().write_all(lines.as_bytes())
 }

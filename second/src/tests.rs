@@ -1,6 +1,7 @@
 //! Session files built in memory; the expected lines are worked out by hand from 01.
 
-use super::run;
+use super::looks::looks;
+use super::*;
 
 const BUY: u8 = 1;
 const SELL: u8 = 2;
@@ -63,6 +64,29 @@ fn check_opening_after(start: Vec<u8>, orders: &[Vec<u8>], expected: &[&str]) {
     lines.push(format!("end {place}"));
     let lines: Vec<&str> = lines.iter().map(String::as_str).collect();
     check(&[vec![start], orders.to_vec(), vec![auction(OPENING)]].concat(), &lines);
+}
+
+/// The session after these records.
+fn session(records: &[Vec<u8>]) -> Session {
+    let (file, mut session) = (records.concat(), Session::fresh());
+    for record in walk(&file).0 {
+        answer(&mut session, &record);
+    }
+    session
+}
+
+/// The four numbers of the theoretical answer.
+fn theoretical(session: &Session, auction: u8) -> Result<[u64; 4], Refusal> {
+    let Answer { outcome, price, quantity, trades } = session.theoretical(auction.into())?;
+    Ok([outcome, price, quantity, trades.len() as u64])
+}
+
+/// The ranked queue in a list of 512.
+fn ranked(session: &Session, side: u8, auction: u8) -> Result<Vec<u64>, Refusal> {
+    let mut list = vec![0; 512];
+    let count = session.ranked(side.into(), auction.into(), &mut list)?;
+    list.truncate(count);
+    Ok(list)
 }
 
 #[test]
@@ -591,4 +615,245 @@ fn any_bytes() {
         }
         assert!(lines.lines().last().unwrap().starts_with("end "));
     }
+}
+
+#[test]
+fn theoretical_p5() {
+    let mut session = session(&[start(), day(BUY, 100, 100_500), day(SELL, 100, 99_500)]);
+    // Asked again it is the same, and the auction then answers it: nothing was changed.
+    for _ in 0..2 {
+        assert_eq!(theoretical(&session, OPENING), Ok([1, 100_000, 100, 1]));
+    }
+    let opening = Record::Auction([1]);
+    assert_eq!(answer(&mut session, &opening), "auction 0 1 100000 100 1\ntrade 1 2 100\n");
+    assert_eq!(theoretical(&session, OPENING), Err(4));
+    assert_eq!(theoretical(&session, CLOSING), Ok([2, 0, 0, 0]));
+}
+
+#[test]
+fn theoretical_p8() {
+    let sell = day(SELL, 30, 100_200);
+    let non_opening = session(&[start(), day(BUY, 50, UNLIMITED), sell.clone()]);
+    assert_eq!(theoretical(&non_opening, OPENING), Ok([3, 0, 0, 0]));
+    let opens = session(&[start(), day(BUY, 30, UNLIMITED), sell]);
+    assert_eq!(theoretical(&opens, OPENING), Ok([1, 100_200, 30, 1]));
+}
+
+#[test]
+fn theoretical_p10() {
+    let orders = [start(), day(BUY, 10, 101_500), day(SELL, 10, 101_500)];
+    let delayed = session(&orders);
+    // To foresee the delay doesn't spend it.
+    for _ in 0..2 {
+        assert_eq!(theoretical(&delayed, OPENING), Ok([4, 101_500, 10, 0]));
+    }
+    let spent = session(&[orders.concat(), auction(OPENING)]);
+    assert_eq!(theoretical(&spent, OPENING), Ok([1, 101_500, 10, 1]));
+    let at_once = session(&[start(), day(BUY, 10, 101_400), day(SELL, 10, 101_400)]);
+    assert_eq!(theoretical(&at_once, OPENING), Ok([1, 101_400, 10, 1]));
+}
+
+/// Checks 1, 2, 4 in each phase: only the auction that the phase would allow.
+#[test]
+fn theoretical_checks() {
+    let mut records = vec![];
+    for (next, opening, closing) in [
+        (start(), Err(2), Err(2)),
+        (auction(OPENING), Ok([2, 0, 0, 0]), Err(4)),
+        (auction(CLOSING), Err(4), Ok([2, 0, 0, 0])),
+        (vec![], Err(4), Err(4)),
+    ] {
+        let session = session(&records);
+        let answers = [0, OPENING, CLOSING, 3].map(|auction| theoretical(&session, auction));
+        assert_eq!(answers, [Err(1), opening, closing, Err(1)]);
+        records.push(next);
+    }
+}
+
+/// Equal limits go by number, though order 4 has the place of order 1; at-the-close orders take
+/// part in the closing only.
+#[test]
+fn ranked_reused_place() {
+    let session = session(&[
+        start(),
+        day(BUY, 10, 100_000),
+        day(BUY, 10, 100_000),
+        day(BUY, 10, 100_100),
+        delete(1, 7),
+        day(BUY, 10, 100_000),
+        order_of(7, BUY, 2, 10, UNLIMITED),
+        day(SELL, 10, 100_100),
+        day(SELL, 10, 100_000),
+        day(SELL, 10, UNLIMITED),
+        day(SELL, 10, 100_000),
+    ]);
+    assert_eq!(ranked(&session, BUY, OPENING), Ok(vec![3, 2, 4]));
+    assert_eq!(ranked(&session, BUY, CLOSING), Ok(vec![5, 3, 2, 4]));
+    assert_eq!(ranked(&session, SELL, OPENING), Ok(vec![8, 7, 9, 6]));
+    // Further entries stay.
+    let mut list = [77; 600];
+    assert_eq!(session.ranked(1, 1, &mut list), Ok(3));
+    assert_eq!((&list[..3], &list[3..]), (&[3, 2, 4][..], &[77; 597][..]));
+}
+
+/// Checks 1, 2, 12: a list of 511 is too short, however few orders there are.
+#[test]
+fn ranked_checks() {
+    let fresh = Session::fresh();
+    let closed = session(&[start(), auction(OPENING), auction(CLOSING)]);
+    for (side, auction) in [(0, 1), (3, 1), (1, 0), (1, 3), (u64::MAX, 2), (2, u64::MAX)] {
+        assert_eq!(fresh.ranked(side, auction, &mut []), Err(1));
+        assert_eq!(closed.ranked(side, auction, &mut []), Err(1));
+    }
+    let mut list = [77; 512];
+    assert_eq!(fresh.ranked(2, 2, &mut list[..511]), Err(2));
+    assert_eq!(closed.ranked(2, 2, &mut list[..511]), Err(12));
+    assert_eq!(closed.ranked(2, 2, &mut list), Ok(0));
+    assert_eq!(list, [77; 512]);
+}
+
+#[test]
+fn filled_front_sums() {
+    let (buys, sells): ([u64; 4], [u64; 3]) = ([50, 30, 0, 20], [7, 7, 7]);
+    let buy = |total| filled_front([&buys, &sells], 1, total);
+    assert_eq!(buy(0), Ok(&buys[..0]));
+    assert_eq!(buy(49), Ok(&buys[..0]));
+    assert_eq!(buy(50), Ok(&buys[..1]));
+    // The longest one: an entry of 0 adds nothing.
+    assert_eq!(buy(80), Ok(&buys[..3]));
+    assert_eq!(buy(99), Ok(&buys[..3]));
+    assert_eq!(buy(100), Ok(&buys[..]));
+    assert_eq!(filled_front([&buys, &sells], 2, 20), Ok(&sells[..2]));
+    assert_eq!(filled_front([&buys, &[]], 2, 20), Ok(&[][..]));
+    for side in [0, 3, 255, u64::MAX] {
+        assert_eq!(filled_front([&buys, &sells], side, 20), Err(1));
+    }
+}
+
+#[test]
+fn filled_front_never_wraps() {
+    const TOP: u64 = 1 << 63;
+    let front = |list, total| filled_front([list, &[]], 1, total).map(<[u64]>::len);
+    // A sum that wraps would come back to 0, to 1 or below the total.
+    assert_eq!(front(&[TOP, TOP, 1], u64::MAX), Ok(1));
+    assert_eq!(front(&[TOP, TOP - 1, 0, 1, 5], u64::MAX), Ok(3));
+    assert_eq!(front(&[u64::MAX, 0, 1, 0], u64::MAX), Ok(2));
+    assert_eq!(front(&[3, u64::MAX, 1], 10), Ok(1));
+    assert_eq!(front(&[u64::MAX; 512], u64::MAX), Ok(1));
+    assert_eq!(front(&[u64::MAX; 512], u64::MAX - 1), Ok(0));
+}
+
+#[test]
+fn filled_front_512_entries() {
+    let list = [1; 513];
+    let lists = [&list[..512], &list[..512]];
+    for (side, total, length) in [(1, 511, 511), (2, 512, 512), (1, u64::MAX, 512)] {
+        assert_eq!(filled_front(lists, side, total), Ok(&list[..length]));
+    }
+    // Refused if either list is longer, whichever side is asked for.
+    for side in 0..=3 {
+        assert_eq!(filled_front([&list, &[]], side, 511), Err(1));
+        assert_eq!(filled_front([&[], &list], side, 511), Err(1));
+    }
+}
+
+/// What a look before the start prints behind its place.
+const FRESH: &str = "\
+theoretical 0 1 0 0 0 0
+theoretical 1 2 0 0 0 0
+theoretical 2 2 0 0 0 0
+theoretical 3 1 0 0 0 0
+ranked 0 0 1 0
+ranked 0 1 1 0
+ranked 0 2 1 0
+ranked 0 3 1 0
+ranked 1 0 1 0
+ranked 1 1 2 0
+ranked 1 2 2 0
+ranked 1 3 1 0
+ranked 2 0 1 0
+ranked 2 1 2 0
+ranked 2 2 2 0
+ranked 2 3 1 0
+ranked 3 0 1 0
+ranked 3 1 1 0
+ranked 3 2 1 0
+ranked 3 3 1 0
+short 0 1 0
+short 1 2 0
+short 2 2 0
+short 3 1 0
+front 0 0 1 0 0
+front 0 18446744073709551615 1 0 0
+front 1 0 0 0 0
+front 1 18446744073709551615 0 0 0
+front 2 0 0 0 0
+front 2 18446744073709551615 0 0 0
+front 3 0 1 0 0
+front 3 18446744073709551615 1 0 0
+long 0 511
+long 1 0
+long 1 0
+";
+
+/// Before each auction record, and where the walk ends: here at the end, and at a fault.
+#[test]
+fn looks_before_the_start() {
+    assert_eq!(looks(&[]), format!("look 1\n{FRESH}end 0\n"));
+    let file = [auction(9), delete(0, 0), auction(OPENING), vec![5, 0, 4, 0]].concat();
+    assert_eq!(looks(&file), format!("look 1\n{FRESH}look 3\n{FRESH}look 4\n{FRESH}end 3\n"));
+}
+
+/// The same by hand for two buys, the second at-the-close, and two sells, in pre-opening. The buys
+/// times 2^40 are two numbers of 64 bits whose sum is none.
+const BOOK: &str = "\
+theoretical 0 1 0 0 0 0
+theoretical 1 0 1 99900 9000000 1
+theoretical 2 4 0 0 0 0
+theoretical 3 1 0 0 0 0
+ranked 0 0 1 0
+ranked 0 1 1 0
+ranked 0 2 1 0
+ranked 0 3 1 0
+ranked 1 0 1 0
+ranked 1 1 0 1 1
+ranked 1 2 0 2 2 1
+ranked 1 3 1 0
+ranked 2 0 1 0
+ranked 2 1 0 2 4 3
+ranked 2 2 0 2 4 3
+ranked 2 3 1 0
+ranked 3 0 1 0
+ranked 3 1 1 0
+ranked 3 2 1 0
+ranked 3 3 1 0
+short 0 1 0
+short 1 12 0
+short 2 12 0
+short 3 1 0
+front 0 18999000 1 0 0
+front 0 18446744073709551615 1 0 0
+front 1 10500000 0 1 9999000
+front 1 18446744073709551615 0 1 10994016766132224000
+front 2 18999000 0 2 1000000
+front 2 18446744073709551615 0 2 1099511627776000000
+front 3 18999000 1 0 0
+front 3 18446744073709551615 1 0 0
+long 0 511
+long 1 0
+long 1 0
+";
+
+#[test]
+fn looks_at_a_book() {
+    let records = [
+        start(),
+        day(BUY, 9_000_000, 100_200),
+        order_of(7, BUY, 2, 9_999_000, UNLIMITED),
+        day(SELL, 1_000_000, 100_000),
+        day(SELL, 9_500_000, 99_900),
+        auction(0),
+    ];
+    // The auction of byte 0 changes nothing.
+    assert_eq!(looks(&records.concat()), format!("look 6\n{BOOK}look 7\n{BOOK}end 6\n"));
 }

@@ -1,10 +1,10 @@
 // What an auction, a theoretical answer and a ranked queue cost. Three bytes on standard input say the book and the call:
 // the size, `a` to `d` (2, 32, 128 or 512 orders); the orders, `m` mixed or `w` the worst; the call, `a` an opening, `c` an opening
 // and a closing, `t` a theoretical answer, `q` a ranked queue, any other none. tools/bench.sh counts the instructions.
+use calls::AuctionAnswer;
+use calls::Session;
 use libc::STDIN_FILENO;
 use libc::STDOUT_FILENO;
-use session::AuctionAnswer;
-use session::Session;
 use terms::Auction;
 use terms::DelayThreshold;
 use terms::Entry;
@@ -37,13 +37,16 @@ fn started() -> Session
     ensures { λ r. ⌜ Sound r ⌝ }
 {
     let fresh = Session::fresh();
-    let r = fresh.start(Start {
-        step: 100,
-        reference: REFERENCE,
-        factor: 9,
-        threshold: DelayThreshold::MAX,
-        most: 1_000_000_000_000,
-    });
+    let r = calls::start(
+        fresh,
+        Start {
+            step: 100,
+            reference: REFERENCE,
+            factor: 9,
+            threshold: DelayThreshold::MAX,
+            most: 1_000_000_000_000,
+        },
+    );
     let session = r.session;
     session
 }
@@ -116,7 +119,7 @@ fn filled(orders: u32, which: u8) -> Session
     let mut x: u32 = 1;
     let mut i: u32 = 0;
     while i < orders {
-        let r = session.order(chosen(which, i, orders, x));
+        let r = calls::order(session, chosen(which, i, orders, x));
         let next_session = r.session;
         session = next_session;
         x = next(x);
@@ -130,10 +133,10 @@ fn filled(orders: u32, which: u8) -> Session
 fn auctions(session: Session, closing: bool, list: &mut [u32]) -> LastCall
     requires { ⌜ Sound session ⌝ }
 {
-    let r = session.auction(Auction::OPENING, list);
+    let r = calls::auction(session, Auction::OPENING, list);
     let day = r.session;
     if closing {
-        let s = day.auction(Auction::CLOSING, list);
+        let s = calls::auction(day, Auction::CLOSING, list);
         let result = s.result;
         let closed = s.session;
         return LastCall {
@@ -156,13 +159,13 @@ fn one_more(session: Session, byte: u8, list: &mut [u32]) -> LastCall
         return auctions(session, byte == b'c', list);
     }
     if byte == b't' {
-        let r = session.theoretical(Auction::OPENING);
+        let r = calls::theoretical(session, Auction::OPENING);
         let result = r.result;
         return LastCall { result, session };
     }
     let mut result = no_answer();
     if byte == b'q' {
-        let r = session.ranked(Side::BUY, Auction::OPENING, list);
+        let r = calls::ranked(session, Side::BUY, Auction::OPENING, list);
         result.count = r.count;
     }
     LastCall { result, session }

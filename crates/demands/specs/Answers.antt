@@ -20,11 +20,13 @@ use Rattle.refusals.specs.Phases.{hasStarted, allowsOrder, allowsAuction}
 use Rattle.refusals.specs.Controls.{offStep, reachesCollar, reachesMost, reachesMostAtReference}
 use Rattle.refusals.specs.Checks.{Check, firstHit, answered-number, answered-not-done}
 use Rattle.refusals.specs.Exactly.{ruleOf, earlier, NoneHit, wellNumbered, none-hit, given-exactly-when}
-use Rattle.session.specs.declared.{Session.Session, Started.Started, Entered.Entered, Deleted.Deleted, Foreseen.Foreseen}
+use Rattle.session.specs.declared.{Session.Session}
+use Rattle.entries.specs.declared.{Started.Started, Entered.Entered, Deleted.Deleted}
+use Rattle.answers.specs.declared.{Foreseen.Foreseen}
 use Rattle.session.specs.State.{freshSession}
-use Rattle.session.specs.Entry.{startChecks, startRefused, startDone, started, controlReference, orderChecks, orderRefused, orderDone, entered, deleteChecks, deleteRefused, deleteDone, deleted}
-use Rattle.session.specs.Auctions.{AuctionLeaves, noAnswer, auctionChecks, auctionRefused, auctionDone, auctioned, theoreticalChecks, theoreticalRefused, theoreticalDone, theoretical}
-use Rattle.session.specs.Queues.{QueueLeaves, rankedChecks, queueRefused, queueDone, rankedNumbers, queued, FrontAnswer, frontChecks, frontRefused, frontDone, filledFront}
+use Rattle.entries.specs.Entry.{startChecks, startRefused, startDone, started, controlReference, orderChecks, orderRefused, orderDone, entered, deleteChecks, deleteRefused, deleteDone, deleted}
+use Rattle.answers.specs.Auctions.{AuctionLeaves, noAnswer, auctionChecks, auctionRefused, auctionDone, auctioned, theoreticalChecks, theoreticalRefused, theoreticalDone, theoretical}
+use Rattle.standings.specs.Queues.{QueueLeaves, rankedChecks, queueRefused, queueDone, rankedNumbers, queued, FrontAnswer, frontChecks, frontRefused, frontDone, filledFront}
 
 -- A2. Any two outcomes that a promise allows are equal.
 pub record OneAnswer : Type 0 where

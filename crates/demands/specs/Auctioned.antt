@@ -37,7 +37,8 @@ use Rattle.auction.specs.After.{remaining, ends, leaves, restOf, rest-keeps}
 use Rattle.trades.specs.Written.{quadruples, quadruples-length, tradesRead, trades-back}
 use Rattle.session.specs.declared.{Session.Session}
 use Rattle.session.specs.Sound.{legalPrice, Sound}
-use Rattle.session.specs.Auctions.{AuctionLeaves, part, heldBy, outcomeOf, tradesNow, sessionAfter, auctionDone, auctioned}
+use Rattle.answers.specs.Auctions.{AuctionLeaves, heldBy, outcomeOf, tradesNow, sessionAfter, auctionDone, auctioned}
+use Rattle.session.specs.State.{part}
 use Rattle.demands.specs.Traded.{Ranged, sound-ranged, no-list-moves-more, bought-is-sold, nobody-passed-over, nothing-left-could-trade, list-of-trades}
 use Rattle.demands.specs.Outcomes.{CarriedOut, carried-out}
 

@@ -11,10 +11,12 @@ use Rattle.terms.specs.Orders.{auctionFrom}
 use Rattle.terms.specs.declared.orders.{Auction.Auction, Auction.the-variants.Opening, Auction.the-variants.Closing}
 use Rattle.auction.specs.declared.{Outcome.Outcome, Outcome.the-variants.Traded, Outcome.the-variants.NoTrade, Outcome.the-variants.NonOpening, Outcome.the-variants.Delayed}
 use Rattle.auction.specs.Outcome.{outcome, reaches, outcomeNumber}
-use Rattle.session.specs.declared.{Session.Session, Started.Started}
+use Rattle.session.specs.declared.{Session.Session}
+use Rattle.entries.specs.declared.{Started.Started}
 use Rattle.refusals.specs.Checks.{answered-cases}
-use Rattle.session.specs.Entry.{startChecks, startRefused, startDone, started}
-use Rattle.session.specs.Auctions.{AuctionLeaves, part, delayable, outcomeOf, sessionAfter, auctionChecks, auctionRefused, auctionDone, auctioned}
+use Rattle.entries.specs.Entry.{startChecks, startRefused, startDone, started}
+use Rattle.answers.specs.Auctions.{AuctionLeaves, delayable, outcomeOf, sessionAfter, auctionChecks, auctionRefused, auctionDone, auctioned}
+use Rattle.session.specs.State.{part}
 use Rattle.demands.specs.Sequences.{Act, Call, acted, after, run}
 use Rattle.demands.specs.Outcomes.{decided, others-keep}
 

@@ -19,11 +19,12 @@ use Rattle.book.specs.Resting.{resting, placeOf, isOf}
 use Rattle.book.specs.ByPlace.{place-found}
 use Rattle.book.specs.Additions.{stored-resting, cleared-resting}
 use Rattle.session.specs.declared.{Session.Session}
-use Rattle.session.specs.declared.Entered.{Entered as Returned}
-use Rattle.session.specs.declared.Deleted.{Deleted as Removed}
+use Rattle.entries.specs.declared.Entered.{Entered as Returned}
+use Rattle.entries.specs.declared.Deleted.{Deleted as Removed}
 use Rattle.refusals.specs.Checks.{firstHit, answered-done}
-use Rattle.session.specs.Entry.{orderChecks, orderRefused, orderDone, orderEntered, entered, enteredSession, deleteChecks, deleteRefused, deleteDone, deleted, deletedSession}
-use Rattle.session.specs.Sound.{legalPrice, Sound, accepted, delete-room}
+use Rattle.entries.specs.Entry.{orderChecks, orderRefused, orderDone, orderEntered, entered, enteredSession, deleteChecks, deleteRefused, deleteDone, deleted, deletedSession}
+use Rattle.session.specs.Sound.{legalPrice, Sound}
+use Rattle.entries.specs.SoundAfter.{accepted, delete-room}
 use Rattle.demands.specs.Answers.{order-answer, delete-answer}
 
 -- B3. The lowest free place is the first whose bit is 0, and the count is that of the taken places.

@@ -9,7 +9,8 @@ use Rattle.auction.specs.NonOpening.{Fillable, FillableAt}
 use Rattle.session.specs.declared.{Session.Session}
 use Rattle.session.specs.State.{freshSession}
 use Rattle.session.specs.Sound.{legalPrice, Sound}
-use Rattle.session.specs.Auctions.{AuctionLeaves, part, auctioned}
+use Rattle.answers.specs.Auctions.{AuctionLeaves, auctioned}
+use Rattle.session.specs.State.{part}
 use Rattle.demands.specs.Sequences.{Call, run, reached-is-sound}
 use Rattle.demands.specs.Prevented.{opening-prevented, opening-prevented-legally, closing-carried-out}
 use Rattle.demands.specs.Auctioned.{TookPlace, NoListMovesMore, BoughtIsSold, NobodyPassedOver, NothingLeft, ListWritten, no-list-at-any-price-moves-more, as-much-bought-as-sold, no-order-passed-over, nothing-left-to-trade, list-written}

@@ -12,7 +12,7 @@ use Rattle.terms.specs.declared.orders.{Side.Side}
 use Rattle.fills.specs.Front.{LongestFront, front-longest}
 use Rattle.refusals.specs.Checks.{firstHit, answered-done}
 use Rattle.refusals.specs.Exactly.{clear}
-use Rattle.session.specs.Queues.{frontChecks, frontRefused, frontDone, listOf, filledFront}
+use Rattle.standings.specs.Queues.{frontChecks, frontRefused, frontDone, listOf, filledFront}
 use Rattle.demands.specs.Answers.{front-answer}
 
 -- B11.

@@ -11,7 +11,7 @@ use Rattle.queue.specs.Reach.{resting-sound}
 use Rattle.auction.specs.Outcome.{outcome}
 use Rattle.session.specs.declared.{Session.Session}
 use Rattle.session.specs.Sound.{legalPrice, Sound}
-use Rattle.session.specs.Auctions.{auctioned}
+use Rattle.answers.specs.Auctions.{auctioned}
 use Rattle.demands.specs.Prices.{price-is-legal}
 use Rattle.demands.specs.Outcomes.{outcomes-in-order}
 

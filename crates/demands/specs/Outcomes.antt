@@ -21,13 +21,16 @@ use Rattle.auction.specs.declared.{Outcome.Outcome, Outcome.the-variants.Traded
 use Rattle.auction.specs.Outcome.{outcome, prevented, delays, priced, trades, priceAnswered}
 use Rattle.trades.specs.Written.{tradesWritten}
 use Rattle.refusals.specs.declared.phases.{Phase.the-variants.PreOpening}
-use Rattle.session.specs.declared.{Session.Session, AuctionAnswer.AuctionAnswer, Started.Started, Entered.Entered, Deleted.Deleted}
+use Rattle.session.specs.declared.{Session.Session}
+use Rattle.answers.specs.declared.{AuctionAnswer.AuctionAnswer}
+use Rattle.entries.specs.declared.{Started.Started, Entered.Entered, Deleted.Deleted}
 use Rattle.session.specs.State.{delayGiven}
 use Rattle.refusals.specs.Phases.{hasStarted, phaseAfter}
 use Rattle.refusals.specs.Checks.{firstHit, answered-cases, answered-done}
 use Rattle.refusals.specs.Exactly.{clear}
-use Rattle.session.specs.Entry.{startChecks, startRefused, startDone, started, orderChecks, orderRefused, orderDone, entered, deleteChecks, deleteRefused, deleteDone, deleted}
-use Rattle.session.specs.Auctions.{AuctionLeaves, part, heldBy, outcomeOf, answerOf, sessionAfter, auctionLeaves, auctionChecks, auctionRefused, auctionDone, auctioned}
+use Rattle.entries.specs.Entry.{startChecks, startRefused, startDone, started, orderChecks, orderRefused, orderDone, entered, deleteChecks, deleteRefused, deleteDone, deleted}
+use Rattle.answers.specs.Auctions.{AuctionLeaves, heldBy, outcomeOf, answerOf, sessionAfter, auctionLeaves, auctionChecks, auctionRefused, auctionDone, auctioned}
+use Rattle.session.specs.State.{part}
 use Rattle.demands.specs.Answers.{auction-answer}
 
 -- an auction asked for by its number is that auction

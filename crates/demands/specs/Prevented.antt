@@ -14,7 +14,8 @@ use Rattle.auction.specs.Outcome.{outcome, outcomeNumber, takesPlace}
 use Rattle.auction.specs.NonOpening.{Fillable, FillableAt, non-opening-exactly, fillable-legally}
 use Rattle.session.specs.declared.{Session.Session}
 use Rattle.session.specs.Sound.{legalPrice, Sound}
-use Rattle.session.specs.Auctions.{part, outcomeOf, auctioned}
+use Rattle.session.specs.State.{part}
+use Rattle.answers.specs.Auctions.{outcomeOf, auctioned}
 use Rattle.demands.specs.Traded.{sound-ranged, every-closing-takes-place}
 use Rattle.demands.specs.Outcomes.{carried-out, outcomes-in-order}
 

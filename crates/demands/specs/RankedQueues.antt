@@ -22,8 +22,8 @@ use Rattle.session.specs.declared.{Session.Session}
 use Rattle.refusals.specs.Checks.{firstHit, answered-done}
 use Rattle.refusals.specs.Exactly.{clear}
 use Rattle.session.specs.Sound.{Sound}
-use Rattle.session.specs.Auctions.{part}
-use Rattle.session.specs.Queues.{QueueLeaves, rankedChecks, rankedNumbers, queueRefused, queueDone, queued}
+use Rattle.session.specs.State.{part}
+use Rattle.standings.specs.Queues.{QueueLeaves, rankedChecks, rankedNumbers, queueRefused, queueDone, queued}
 use Rattle.demands.specs.Answers.{ranked-answer}
 use Rattle.demands.specs.Traded.{sound-ranged}
 use Rattle.demands.specs.Outcomes.{auction-numbered}

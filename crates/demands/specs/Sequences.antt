@@ -14,12 +14,15 @@ use Rattle.terms.specs.declared.orders.{Auction.Auction, Entry.Entry}
 use Rattle.terms.specs.declared.parameters.{Start.Start}
 use Rattle.auction.specs.declared.{Outcome.Outcome, Outcome.the-variants.Traded, Outcome.the-variants.NoTrade, Outcome.the-variants.NonOpening, Outcome.the-variants.Delayed}
 use Rattle.refusals.specs.Checks.{firstHit, answered, answeredBy, answered-cases, answered-done}
-use Rattle.session.specs.declared.{Session.Session, Started.Started, Deleted.Deleted}
+use Rattle.session.specs.declared.{Session.Session}
+use Rattle.entries.specs.declared.{Started.Started, Deleted.Deleted}
 use Rattle.session.specs.State.{freshSession}
-use Rattle.session.specs.Entry.{startChecks, startRefused, startDone, started, orderChecks, orderRefused, orderDone, entered, deleteChecks, deleteRefused, deleteDone, deleted}
-use Rattle.session.specs.Auctions.{AuctionLeaves, part, outcomeOf, sessionAfter, auctionChecks, auctionRefused, auctionDone, auctioned}
-use Rattle.session.specs.SoundAfter.{auctioned-sound}
-use Rattle.session.specs.Sound.{Sound, fresh-sound, started-sound, entered-sound, deleted-sound}
+use Rattle.entries.specs.Entry.{startChecks, startRefused, startDone, started, orderChecks, orderRefused, orderDone, entered, deleteChecks, deleteRefused, deleteDone, deleted}
+use Rattle.answers.specs.Auctions.{AuctionLeaves, outcomeOf, sessionAfter, auctionChecks, auctionRefused, auctionDone, auctioned}
+use Rattle.session.specs.State.{part}
+use Rattle.answers.specs.SoundAfter.{auctioned-sound}
+use Rattle.session.specs.Sound.{Sound, fresh-sound}
+use Rattle.entries.specs.SoundAfter.{started-sound, entered-sound, deleted-sound}
 use Rattle.demands.specs.Answers.{order-answer}
 
 -- a call with all that it is given but the session: one that may change the session, or one that only looks at it

@@ -14,7 +14,7 @@ use Rattle.book.specs.Resting.{resting}
 use Rattle.book.specs.ByPlace.{resting-length}
 use Rattle.session.specs.declared.{Session.Session}
 use Rattle.session.specs.Sound.{legalPrice, Sound}
-use Rattle.session.specs.Auctions.{heldBy}
+use Rattle.answers.specs.Auctions.{heldBy}
 use Rattle.queue.specs.Reach.{resting-distinct, resting-live}
 use Rattle.queue.specs.Part.{takingPart, takingPart-distinct, takingPart-elim, takingPart-length}
 use Rattle.queue.specs.Distinct.{Distinct}

@@ -1,8 +1,8 @@
 // What one order and one deletion cost where the book is full. It makes a session with 511 orders, and one call more by
 // the byte on standard input: `o` an order, `d` a deletion, any other none. tools/bench.sh counts the instructions.
+use calls::Session;
 use libc::STDIN_FILENO;
 use libc::STDOUT_FILENO;
-use session::Session;
 use terms::Entry;
 use terms::Place;
 use terms::Side;
@@ -24,13 +24,16 @@ fn started() -> Session
     ensures { λ r. ⌜ Sound r ⌝ }
 {
     let fresh = Session::fresh();
-    let r = fresh.start(Start {
-        step: 100,
-        reference: 100_000,
-        factor: 9,
-        threshold: 150,
-        most: 1_000_000_000_000,
-    });
+    let r = calls::start(
+        fresh,
+        Start {
+            step: 100,
+            reference: 100_000,
+            factor: 9,
+            threshold: 150,
+            most: 1_000_000_000_000,
+        },
+    );
     let session = r.session;
     session
 }
@@ -51,7 +54,7 @@ fn filled() -> Session
     let mut session = started();
     let mut i: u32 = 0;
     while i < ORDERS {
-        let r = session.order(day_buy());
+        let r = calls::order(session, day_buy());
         let next = r.session;
         session = next;
         i += 1;
@@ -64,7 +67,7 @@ fn one_more(session: Session, byte: u8) -> LastCall
     requires { ⌜ Sound session ⌝ }
 {
     if byte == b'o' {
-        let r = session.order(day_buy());
+        let r = calls::order(session, day_buy());
         let next = r.session;
         return LastCall {
             answer: r.answer,
@@ -72,7 +75,7 @@ fn one_more(session: Session, byte: u8) -> LastCall
         };
     }
     if byte == b'd' {
-        let r = session.delete(ORDERS, MEMBER);
+        let r = calls::delete(session, ORDERS, MEMBER);
         let next = r.session;
         return LastCall {
             answer: r.answer,

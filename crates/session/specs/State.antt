@@ -1,11 +1,16 @@
 -- A session's state: the fresh one, and each way in which a call changes it. Nothing else makes a session.
 use Prim.Native.Nat.{ℕ}
 use mathlib.Core.Bool.{true, false}
+use mathlib.Core.List.{List}
+use Rattle.terms.specs.Orders.{Resting}
 use Rattle.terms.specs.Parameters.{leastParameters}
 use Rattle.terms.specs.declared.kinds.{Price.Price}
+use Rattle.terms.specs.declared.orders.{Auction.Auction}
 use Rattle.terms.specs.declared.parameters.{Parameters.Parameters}
 use Rattle.book.specs.declared.Book.{Book}
 use Rattle.book.specs.Columns.{emptyBook}
+use Rattle.book.specs.Resting.{resting}
+use Rattle.queue.specs.Part.{takingPart}
 use Rattle.refusals.specs.declared.phases.{Phase.Phase, Phase.the-variants.Fresh, Phase.the-variants.PreOpening}
 use Rattle.session.specs.declared.{Session.Session}
 
@@ -28,3 +33,7 @@ passedOn s phase reference book = record { phase = phase; delayed = s .delayed; 
 -- outcome 4: only the mark that the delay is spent changes
 abbrev pub delayGiven : Session → Session
 delayGiven s = record { phase = s .phase; delayed = true; parameters = s .parameters; reference = s .reference; given = s .given; book = s .book }
+
+-- the orders taking part in an auction
+abbrev pub part : Session → Auction → List Resting
+part s a = takingPart a (resting (s .book))

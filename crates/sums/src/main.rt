@@ -1,8 +1,8 @@
 // The sums of 01 "Sums to check by hand" and its worked input, run through the session: what it answers, one line each, is held to
 // the file `stdout`, whose numbers are the paper's.
+use calls::AuctionAnswer;
+use calls::Session;
 use libc::STDOUT_FILENO;
-use session::AuctionAnswer;
-use session::Session;
 use terms::Auction;
 use terms::Entry;
 use terms::Side;
@@ -33,13 +33,16 @@ fn started(reference: u32) -> Session
     ensures { λ r. ⌜ Sound r ⌝ }
 {
     let fresh = Session::fresh();
-    let r = fresh.start(Start {
-        step: 100,
-        reference,
-        factor: 9,
-        threshold: 150,
-        most: 1_000_000_000_000,
-    });
+    let r = calls::start(
+        fresh,
+        Start {
+            step: 100,
+            reference,
+            factor: 9,
+            threshold: 150,
+            most: 1_000_000_000_000,
+        },
+    );
     let session = r.session;
     session
 }
@@ -59,7 +62,7 @@ fn entered(session: Session, side: u8, validity: u8, quantity: u32, limit: u32) 
     requires { ⌜ Sound session ⌝ }
     ensures { λ r. ⌜ Sound r ⌝ }
 {
-    let r = session.order(entry(side, validity, quantity, limit));
+    let r = calls::order(session, entry(side, validity, quantity, limit));
     let next = r.session;
     next
 }
@@ -91,7 +94,7 @@ fn held(session: Session, which: u8, list: &mut [u32]) -> Session
     requires { ⌜ Sound session ⌝ }
     ensures { λ r. ⌜ Sound r ⌝ }
 {
-    let r = session.auction(which, list);
+    let r = calls::auction(session, which, list);
     put_answer(r.result);
     let next = r.session;
     next
@@ -108,7 +111,7 @@ fn opened(session: Session) -> Session
 // What an order alone in the book is answered.
 fn answered(quantity: u32, limit: u32) -> u64 {
     let session = started(REFERENCE);
-    let r = session.order(entry(Side::BUY, Validity::DAY, quantity, limit));
+    let r = calls::order(session, entry(Side::BUY, Validity::DAY, quantity, limit));
     r.answer as u64
 }
 
@@ -174,7 +177,7 @@ fn put_resting(session: Session, side: u8)
     requires { ⌜ Sound session ⌝ }
 {
     let mut list = [0u32; Session::QUEUE_LIST];
-    let r = session.ranked(side, Auction::CLOSING, &mut list);
+    let r = calls::ranked(session, side, Auction::CLOSING, &mut list);
     put_number(r.count as u64);
 }
 

@@ -10,9 +10,10 @@ use Rattle.terms.specs.declared.orders.{Auction.Auction}
 use Rattle.trades.specs.declared.{Trade.Trade}
 use Rattle.auction.specs.Outcome.{priceAnswered}
 use Rattle.trades.specs.Written.{tradesRead, trades-back}
-use Rattle.session.specs.declared.{Session.Session, Auctioned.Auctioned}
+use Rattle.session.specs.declared.{Session.Session}
+use Rattle.answers.specs.declared.{Auctioned.Auctioned}
 use Rattle.refusals.specs.Checks.{Check, firstHit, answeredBy, answered, answered-cases}
-use Rattle.session.specs.Auctions.{AuctionLeaves, outcomeOf, tradesNow, auctionChecks, auctionLeaves, auctionRefused, auctionDone, auctioned}
+use Rattle.answers.specs.Auctions.{AuctionLeaves, outcomeOf, tradesNow, auctionChecks, auctionLeaves, auctionRefused, auctionDone, auctioned}
 use Rattle.records.specs.declared.{kinds.Record.Record}
 use Rattle.transcript.specs.Transcript.{Step, step, auctionStep, lent, tradesAnswered}
 use Rattle.transcript.specs.Steps.{trades-few}

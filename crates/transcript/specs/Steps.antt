@@ -16,10 +16,13 @@ use Rattle.queue.specs.Part.{takingPart-length}
 use Rattle.auction.specs.declared.{Outcome.Outcome, Outcome.the-variants.Traded, Outcome.the-variants.NoTrade, Outcome.the-variants.NonOpening, Outcome.the-variants.Delayed}
 use Rattle.trades.specs.TradesOf.{trades-count}
 use Rattle.auction.specs.Outcome.{trades}
-use Rattle.session.specs.declared.{Session.Session, Entered.Entered, Deleted.Deleted}
-use Rattle.session.specs.Sound.{Sound, started-sound, entered-sound, deleted-sound}
-use Rattle.session.specs.SoundAfter.{auctioned-sound}
-use Rattle.session.specs.Auctions.{auctionChecks, auctioned, part, outcomeOf, tradesNow}
+use Rattle.session.specs.declared.{Session.Session}
+use Rattle.entries.specs.declared.{Entered.Entered, Deleted.Deleted}
+use Rattle.session.specs.Sound.{Sound}
+use Rattle.entries.specs.SoundAfter.{started-sound, entered-sound, deleted-sound}
+use Rattle.answers.specs.SoundAfter.{auctioned-sound}
+use Rattle.answers.specs.Auctions.{auctionChecks, auctioned, outcomeOf, tradesNow}
+use Rattle.session.specs.State.{part}
 use Rattle.records.specs.declared.{kinds.Record.Record, kinds.Deletion.Deletion}
 use Rattle.lines.specs.Line.{lineOf, tradeLines, numberedLine, doneLine}
 use Rattle.lines.specs.Lengths.{lineRoom, tradeRoom, line-length, trades-room}
@@ -31,8 +34,8 @@ use Rattle.terms.specs.declared.parameters.{Parameters.Parameters}
 use Rattle.refusals.specs.declared.phases.{Phase.Phase}
 use Rattle.effects.specs.declared.{Change.Change, Effect.Effect}
 use Rattle.effects.specs.Effects.{orderEffect, deleteEffect, order-place, delete-place}
-use Rattle.session.specs.Entry.{controlReference, entered, deleted}
-use Rattle.session.specs.Changes.{changed, orderIn, deleteIn, enteredBy, deletedBy, entered-by, deleted-by}
+use Rattle.entries.specs.Entry.{controlReference, entered, deleted}
+use Rattle.entries.specs.Changes.{changed, orderIn, deleteIn, enteredBy, deletedBy, entered-by, deleted-by}
 use Rattle.lines.specs.declared.{words.Word.Word, Line.Line}
 
 -- the session after a step, and the lines of the record at its place from 1 written into the buffer

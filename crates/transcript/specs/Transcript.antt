@@ -6,10 +6,12 @@ use lib.ListN.{replicate}
 use Rattle.terms.specs.Bounds.{tradeListLength}
 use Rattle.terms.specs.Orders.{auctionFrom}
 use Rattle.trades.specs.declared.{Trade.Trade}
-use Rattle.session.specs.declared.{Session.Session, Started.Started, Entered.Entered, Deleted.Deleted, AuctionAnswer.AuctionAnswer, Auctioned.Auctioned}
+use Rattle.session.specs.declared.{Session.Session}
+use Rattle.entries.specs.declared.{Started.Started, Entered.Entered, Deleted.Deleted}
+use Rattle.answers.specs.declared.{AuctionAnswer.AuctionAnswer, Auctioned.Auctioned}
 use Rattle.session.specs.State.{freshSession}
-use Rattle.session.specs.Entry.{started, entered, deleted}
-use Rattle.session.specs.Auctions.{auctionChecks, auctioned, tradesNow}
+use Rattle.entries.specs.Entry.{started, entered, deleted}
+use Rattle.answers.specs.Auctions.{auctionChecks, auctioned, tradesNow}
 use Rattle.refusals.specs.Checks.{answered}
 use Rattle.records.specs.declared.{kinds.Record.Record}
 use Rattle.records.specs.Walk.{walk}

@@ -3,6 +3,7 @@ use crate::Doing;
 use crate::Stepped;
 use book::HINTS;
 use book::place_by_hint;
+use calls::AuctionAnswer;
 use effects::Effect;
 use effects::delete_effect;
 use effects::order_effect;
@@ -13,7 +14,6 @@ use lines::trade_lines;
 use places::WORDS;
 use records::Record;
 use refusals::Phase;
-use session::AuctionAnswer;
 use session::Session;
 use terms::Parameters;
 use terms::Place;
@@ -91,7 +91,7 @@ pub(crate) fn start_written(
     requires { ⌜ Sound session × (at + lineRoom ≤ length (now out)) ⌝ }
     ensures { λ r. ⌜ WroteStep place (now (out .entry)) (now (out .exit)) at r (step session (Start·record p)) ⌝ }
 {
-    let r = session.start(p);
+    let r = calls::start(session, p);
     let end = line_of(
         out,
         at,
@@ -130,7 +130,7 @@ pub(crate) fn auction_written(
     requires { ⌜ Sound session × (length (now list) ≡ tradeListLength) × (at + recordRoom ≤ length (now out)) ⌝ }
     ensures { λ r. ⌜ WroteStep place (now (out .entry)) (now (out .exit)) at r (step session (Auction·record which)) ⌝ }
 {
-    let r = session.auction(which, list);
+    let r = calls::auction(session, which, list);
     let result = r.result;
     let line = auction_line(r.answer, result);
     let behind = line_of(out, at, place, line);

@@ -14,9 +14,9 @@ use Rattle.trades.specs.TradesOf.{fills, tradesOf}
 use Rattle.auction.specs.Outcome.{nonOpening, outcome}
 use Rattle.auction.specs.After.{restOf}
 use Rattle.refusals.specs.Checks.{firstHit}
-use Rattle.session.specs.Entry.{started, entered, deleted}
-use Rattle.session.specs.Auctions.{outcomeOf, auctioned, theoretical}
-use Rattle.session.specs.Queues.{queued, filledFront}
+use Rattle.entries.specs.Entry.{started, entered, deleted}
+use Rattle.answers.specs.Auctions.{outcomeOf, auctioned, theoretical}
+use Rattle.standings.specs.Queues.{queued, filledFront}
 
 unfoldable pub computing : Unit {0}
 unfolding apart bit least total marked unmarked stored cleared restingTo findFrom changedTo takingPart ranked front interest mostExecutable auctionPrice traded fills tradesOf nonOpening outcome restOf firstHit started entered deleted outcomeOf auctioned theoretical queued filledFront

@@ -4,10 +4,11 @@ use mathlib.Core.List.{List, [], _∷_}
 use lib.ListN.{replicate}
 use Rattle.terms.specs.Bounds.{tradeListLength}
 use Rattle.terms.specs.declared.orders.{Entry.Entry}
-use Rattle.session.specs.declared.{Session.Session, AuctionAnswer.AuctionAnswer}
+use Rattle.session.specs.declared.{Session.Session}
+use Rattle.answers.specs.declared.{AuctionAnswer.AuctionAnswer}
 use Rattle.session.specs.State.{freshSession}
-use Rattle.session.specs.Entry.{started, entered}
-use Rattle.session.specs.Auctions.{auctioned}
+use Rattle.entries.specs.Entry.{started, entered}
+use Rattle.answers.specs.Auctions.{auctioned}
 
 -- step 100, factor 9, threshold 150, maximum 1,000,000,000,000, and a reference price
 abbrev pub startedAt : ℕ → Session

@@ -5,9 +5,9 @@ use lib.ListN.{replicate}
 use Rattle.book.specs.Resting.{resting}
 use Rattle.session.specs.declared.{Session.Session}
 use Rattle.session.specs.State.{freshSession}
-use Rattle.session.specs.Entry.{entered, deleted}
-use Rattle.session.specs.Auctions.{auctioned, theoretical}
-use Rattle.session.specs.Queues.{queued}
+use Rattle.entries.specs.Entry.{entered, deleted}
+use Rattle.answers.specs.Auctions.{auctioned, theoretical}
+use Rattle.standings.specs.Queues.{queued}
 use Rattle.worked.specs.Computing.{computing}
 use Rattle.worked.specs.Samples.{startedAt, entry, buy, sell, enter, auctionAnswered, after, openingOf, numbers}
 

@@ -1,8 +1,8 @@
 use mathlib.Core.Path.{sym, subst}
 use borrow.Author.Needs.{needs}
-use Rattle.session.specs.Auctions.{AuctionLeaves}
+use Rattle.answers.specs.Auctions.{AuctionLeaves}
 use Rattle.session.specs.Sound.{Sound}
-use Rattle.session.specs.SoundAfter.{auctioned-sound}
+use Rattle.answers.specs.SoundAfter.{auctioned-sound}
 use Rattle.auction_cost.proofs.auctions.Statement.{statement}
 use Rattle.auction_cost.proofs.auctions.Tie as tie
 

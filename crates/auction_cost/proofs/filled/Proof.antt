@@ -2,8 +2,9 @@ use Prim.Native.Nat.{_≤_, _-_}
 use mathlib.Core.Path.{sym, subst}
 use native.Mathlib.Omega.{arith}
 use borrow.Author.Needs.{needs}
-use Rattle.session.specs.Sound.{Sound, entered-sound}
-use Rattle.session.specs.declared.{Entered.Entered}
+use Rattle.session.specs.Sound.{Sound}
+use Rattle.entries.specs.SoundAfter.{entered-sound}
+use Rattle.entries.specs.declared.{Entered.Entered}
 use Rattle.auction_cost.proofs.filled.Statement.{statement}
 use Rattle.auction_cost.proofs.filled.Tie as tie
 

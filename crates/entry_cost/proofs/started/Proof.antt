@@ -1,7 +1,8 @@
 use mathlib.Core.Path.{sym, subst}
 use borrow.Author.Needs.{needs}
-use Rattle.session.specs.Sound.{Sound, fresh-sound, started-sound}
-use Rattle.session.specs.declared.{Started.Started}
+use Rattle.session.specs.Sound.{Sound, fresh-sound}
+use Rattle.entries.specs.SoundAfter.{started-sound}
+use Rattle.entries.specs.declared.{Started.Started}
 use Rattle.entry_cost.proofs.started.Statement.{statement}
 use Rattle.entry_cost.proofs.started.Tie as tie
 

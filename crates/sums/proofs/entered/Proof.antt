@@ -1,7 +1,8 @@
 use mathlib.Core.Path.{sym, subst}
 use borrow.Author.Needs.{needs}
-use Rattle.session.specs.Sound.{Sound, entered-sound}
-use Rattle.session.specs.declared.{Entered.Entered}
+use Rattle.session.specs.Sound.{Sound}
+use Rattle.entries.specs.SoundAfter.{entered-sound}
+use Rattle.entries.specs.declared.{Entered.Entered}
 use Rattle.sums.proofs.entered.Statement.{statement}
 use Rattle.sums.proofs.entered.Tie as tie
 

@@ -7,7 +7,7 @@ use Rattle.terms.specs.Bounds.{tradeListLength, places}
 use Rattle.book.specs.Hints.{sound-numbered}
 use Rattle.session.specs.Sound.{legalPrice}
 use Rattle.lines.specs.Line.{numberedLine, doneLine}
-use Rattle.session.specs.Changes.{changed}
+use Rattle.entries.specs.Changes.{changed}
 use Rattle.transcript.specs.declared.{Stepped.Stepped}
 use Rattle.transcript.specs.Transcript.{step}
 use Rattle.transcript.specs.Steps.{recordRoom, WroteStep, wrote-alone, quiet, does-found, wrote-as}

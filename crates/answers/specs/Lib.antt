@@ -1,0 +1,8 @@
+-- Answers: what an auction and the theoretical answer return and leave.
+
+-- the paper
+pub mod Auctions
+-- its laws
+pub mod SoundAfter
+-- as the code computes it
+pub mod AuctionCalls
