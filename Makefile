@@ -1,5 +1,5 @@
 # The front door. `make test` is the gate; see README.md.
-.PHONY: test run bench compare soak release verify moved
+.PHONY: test run bench compare soak release verify moved mutants
 
 test:
 	@sh tools/test.sh
@@ -29,3 +29,7 @@ verify:
 # What moved since the commit FROM, crate by crate, by name and in seconds: the skeleton of a note in docs/CHANGES.md.
 moved:
 	@sh tools/moved.sh "$$FROM"
+
+# One token changed at a time, in a copy: what does the check take? All crates, or CRATES="price queue"; by SEED, N of each: docs/MUTANTS.md.
+mutants:
+	@python3 tools/mutants.py $$CRATES

@@ -55,7 +55,7 @@ table w 'the worst: instructions'
 echo
 # Two orders: no frame depends on the book.
 printf %s ama >"$dir/stdin"
-stack=$(sh tools/stack.sh target/bin/auction_cost session::Session::auction "$dir/stdin") || exit 1
+stack=$(sh tools/stack.sh target/bin/auction_cost answers::auction "$dir/stdin") || exit 1
 echo "stack of an auction: $stack bytes"
 
 fail() {

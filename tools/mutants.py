@@ -3,8 +3,8 @@
 the incremental check; what the check takes has survived. By seed: SEED (1), N mutants of each crate's code and as many of its definitions (10),
 PART src or specs (both), JOBS at a time (2).
 
-A mutant of a definition that its own crate takes is then held to the crates above. Survivors that docs/MUTANTS.md explains are not listed again.
-The status is 1 where another survived. Nothing here belongs to the gate.
+A mutant of a definition that its own crate takes is then held to the crates above, and one of a program to its stored output. Survivors that
+docs/MUTANTS.md explains are not listed again. The status is 1 where another survived. Nothing here belongs to the gate.
 """
 import os
 import random
@@ -77,9 +77,9 @@ def declared():
             if m[1] == "enum":
                 cases.setdefault(m[2], set()).update(re.findall(r"^\s+(\w+)\s*[,({]", body, re.M))
             elif m[1] == "struct":
-                names = re.findall(r"^\s+(?:pub(?:\(\w+\))? )?(\w+):", body, re.M)
-                for name in names:
-                    fields.setdefault(name, set()).update(names)
+                typed = re.findall(r"^\s+(?:pub(?:\(\w+\))? )?(\w+): (.*),$", body, re.M)
+                for name, kind in typed:
+                    fields.setdefault(name, set()).update(other for other, same in typed if same == kind)
             else:
                 constants.setdefault(m[2], set()).update(re.findall(r"\bconst (\w+):", body))
     return cases, constants, fields
@@ -132,7 +132,7 @@ def code_mutants(text):
         yield from ((*c, 0, 0) for c in changes(text, m.end(), text.index(";", m.end()), {}, True))
     for m in re.finditer(r"\bfn \w+(?:<[^>]*>)?\(", text):
         at = closed(text, m.end() - 1, "()")
-        names = set(re.findall(r"(\w+):", text[m.end():at]))
+        names = {name: kind for name, kind in re.findall(r"(\w+): ([^,)]+)", text[m.end():at])}
         while True:
             at = text.index("{", at)
             clause = re.search(r"(requires|ensures)\s*$", text[:at])
@@ -140,8 +140,8 @@ def code_mutants(text):
                 break
             at = closed(text, at)
         end = closed(text, at)
-        names |= set(re.findall(r"\blet (?:mut )?(\w+)", text[at:end])) | set(re.findall(r"\w\((\w+)\) =>", text[at:end]))
-        yield from ((*c, 0, 0) for c in changes(text, at + 1, end - 1, dict.fromkeys(names, ""), True))
+        names |= {name: kind or "" for name, kind in re.findall(r"\blet (?:mut )?([a-z]\w*)(?:: (\w+))?", text[at:end])}
+        yield from ((*c, 0, 0) for c in changes(text, at + 1, end - 1, names, True))
         # a statement less
         for s in re.finditer(r"^ +(?!let |return |while |if |match |for )[\w.:\[\]]+(?:\([^;{}]*\)| [-+]?= [^;{}]*);\n", text[at:end], re.M):
             yield at + s.start(), at + s.end(), "", 0, 0
@@ -172,10 +172,32 @@ def spec_mutants(text, types):
             sign = re.search(r" =(?=\s)", whole)
             if not sign:
                 continue
-            bound = dict.fromkeys(re.findall(r"[\w·'-]+", whole[len(indent) + len(name):sign.start()]), "")
-            known = {**types, **{b: "" for b in bound if not b[0].isupper() and not b[0].isdigit()}}
+            known = {**types, **bound(whole[len(indent) + len(name):sign.start()], types.get(name, ""))}
             for c in changes(text, places[clause] + sign.end(), places[n], known, False):
                 yield *c, first, n
+
+
+def split(text, at):
+    """the parts of a text between these signs, outside of brackets"""
+    parts, depth, last = [], 0, 0
+    for i, sign in enumerate(text):
+        depth += (sign in "({") - (sign in ")}")
+        if depth == 0 and sign == at:
+            parts.append(text[last:i].strip())
+            last = i + 1
+    return [part for part in parts + [text[last:].strip()] if part]
+
+
+def bound(patterns, kind):
+    """name: its type, for what the patterns before a sign of equality bind; the rest of a list is a list"""
+    names = {}
+    for pattern, of in zip(split(patterns, " "), split(kind, "→")):
+        rest = re.fullmatch(r"\((\w+) ∷ (\w+)\)", pattern)
+        if rest:
+            names |= {rest[1]: of.removeprefix("List ").strip("()"), rest[2]: of}
+        elif re.fullmatch(r"[a-z][\w'-]*", pattern):
+            names[pattern] = of
+    return names
 
 
 def stated(files):
@@ -226,9 +248,12 @@ def tried(mutant, tree):
     try:
         done = run(tree, "dev", mutant.crate)
         said = verdict(mutant, done.returncode, done.stdout)
-        if said == "survived" and mutant.last_line:
-            above = run(tree, "check")
-            said = "refused above" if above.returncode else said
+        if said != "survived":
+            return said
+        if mutant.last_line:
+            return "refused above" if run(tree, "check").returncode else said
+        if (tree / "crates" / mutant.crate / "src" / "main.rt").exists():
+            return "another output" if run(tree, "check", mutant.crate).returncode else said
         return said
     finally:
         path.write_text(text)

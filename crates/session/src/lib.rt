@@ -26,7 +26,7 @@ impl Session {
 
     pub const QUEUE_LIST: usize = Place::COUNT;
 
-    // A session that has not started.
+    // A session that has not started (A1).
     pub fn fresh() -> Session
         ensures { λ r. ⌜ r ≡ freshSession ⌝ }
     {
