@@ -1,9 +1,9 @@
 #!/usr/bin/env python3
 """mutants.py [CRATE ..]: make mutants. Changes one token of a crate's code or of one of its definitions, in a copy of the tree, and asks
 the incremental check; what the check takes has survived. By seed: SEED (1), N mutants of each crate's code and as many of its definitions (10),
-PART src or specs (both), JOBS at a time (2).
+PART src or specs (both), JOBS at a time (2), SAY=1 to say each.
 
-A mutant of a definition that its own crate takes is then held to the crates above, and one of a program to its stored output. Survivors that
+A mutant of a definition or a constant that its own crate takes is then held to the crates above, and one of a program to its stored output. Survivors that
 docs/MUTANTS.md explains are not listed again. The status is 1 where another survived. Nothing here belongs to the gate.
 """
 import os
@@ -22,6 +22,7 @@ ROOT = Path(__file__).resolve().parent.parent
 SEED = int(os.environ.get("SEED") or 1)
 EACH = int(os.environ.get("N") or 10)
 JOBS = int(os.environ.get("JOBS") or 2)
+SAY = os.environ.get("SAY")
 PARTS = {"src": ["src"], "specs": ["specs"]}.get(os.environ.get("PART", ""), ["src", "specs"])
 
 # A binary operator is set between spaces by the layout; `<'a>` and `&x` are not.
@@ -32,6 +33,10 @@ WORDS = {"true": "false", "false": "true", "leb": "ltb", "ltb": "leb", "take": "
 TOKEN = re.compile(r"""//[^\n]*|--[^\n]*|b"(?:[^"\\]|\\.)*"|b'.'|[A-Za-z_·][\w·'-]*|\d[\d_]*(?:[ui]\d+|usize)?|[<>=!+\-*/%&|]+|\S""")
 
 
+# Definitions that are the inputs of worked examples: another input is as good.
+INPUTS = {"Examples.antt", "Clause7.antt", "Samples.antt", "Sums.antt", "Worked.antt"}
+
+
 @dataclass(frozen=True)
 class Mutant:
     crate: str
@@ -39,11 +44,13 @@ class Mutant:
     start: int
     end: int
     new: str
+    shared: bool  # a definition or a constant, which the crates above see
     first_line: int  # of the definition that it is in
     last_line: int
 
     def line_of(self, text):
-        from_, to = text.rfind("\n", 0, self.start) + 1, (text + "\n").find("\n", self.end)
+        """its line, as it stands and as changed; a statement that is left out is followed by nothing"""
+        from_, to = text.rfind("\n", 0, self.start) + 1, (text + "\n").find("\n", max(self.start, self.end - 1))
         return text[from_:to].strip(), (text[from_:self.start] + self.new + text[self.end:to]).strip()
 
 
@@ -129,7 +136,7 @@ def changes(text, start, end, known, code):
 def code_mutants(text):
     """of functions' bodies and of constants' values"""
     for m in re.finditer(r"\bconst \w+: [^=]+= ", text):
-        yield from ((*c, 0, 0) for c in changes(text, m.end(), text.index(";", m.end()), {}, True))
+        yield from ((*c, True, 0, 0) for c in changes(text, m.end(), text.index(";", m.end()), {}, True))
     for m in re.finditer(r"\bfn \w+(?:<[^>]*>)?\(", text):
         at = closed(text, m.end() - 1, "()")
         names = {name: kind for name, kind in re.findall(r"(\w+): ([^,)]+)", text[m.end():at])}
@@ -141,10 +148,10 @@ def code_mutants(text):
             at = closed(text, at)
         end = closed(text, at)
         names |= {name: kind or "" for name, kind in re.findall(r"\blet (?:mut )?([a-z]\w*)(?:: (\w+))?", text[at:end])}
-        yield from ((*c, 0, 0) for c in changes(text, at + 1, end - 1, names, True))
+        yield from ((*c, False, 0, 0) for c in changes(text, at + 1, end - 1, names, True))
         # a statement less
         for s in re.finditer(r"^ +(?!let |return |while |if |match |for )[\w.:\[\]]+(?:\([^;{}]*\)| [-+]?= [^;{}]*);\n", text[at:end], re.M):
-            yield at + s.start(), at + s.end(), "", 0, 0
+            yield at + s.start(), at + s.end(), "", False, 0, 0
 
 
 def spec_mutants(text, types):
@@ -174,7 +181,7 @@ def spec_mutants(text, types):
                 continue
             known = {**types, **bound(whole[len(indent) + len(name):sign.start()], types.get(name, ""))}
             for c in changes(text, places[clause] + sign.end(), places[n], known, False):
-                yield *c, first, n
+                yield *c, True, first, n
 
 
 def split(text, at):
@@ -213,9 +220,11 @@ def mutants(crate, part):
     files = sorted((ROOT / "crates" / crate / part).glob("*.rt" if part == "src" else "*.antt"))
     types = stated(files) if part == "specs" else {}
     for file in files:
+        if file.name in INPUTS:
+            continue
         text = file.read_text()
-        for start, end, new, first, last in code_mutants(text) if part == "src" else spec_mutants(text, types):
-            yield Mutant(crate, f"{part}/{file.name}", start, end, new, first, last)
+        for change in code_mutants(text) if part == "src" else spec_mutants(text, types):
+            yield Mutant(crate, f"{part}/{file.name}", *change)
 
 
 def explained():
@@ -241,6 +250,16 @@ def verdict(mutant, ended, out):
     return "shape" if re.search(r"can be named from here|expected type `tie\.Need-", out) else "refused"
 
 
+def checked(tree, *names):
+    """the status of a whole check, in a copy: what it leaves must not be taken for the tree's own"""
+    copy = Path(tempfile.mkdtemp(dir=tree.parent)) / "tree"
+    try:
+        shutil.copytree(tree, copy, ignore=shutil.ignore_patterns("inc"))
+        return run(copy, "check", *names).returncode
+    finally:
+        shutil.rmtree(copy.parent, ignore_errors=True)
+
+
 def tried(mutant, tree):
     path = tree / "crates" / mutant.crate / mutant.file
     text = path.read_text()
@@ -250,17 +269,17 @@ def tried(mutant, tree):
         said = verdict(mutant, done.returncode, done.stdout)
         if said != "survived":
             return said
-        if mutant.last_line:
-            return "refused above" if run(tree, "check").returncode else said
+        if mutant.shared:
+            return "refused above" if checked(tree) else said
         if (tree / "crates" / mutant.crate / "src" / "main.rt").exists():
-            return "another output" if run(tree, "check", mutant.crate).returncode else said
+            return "another output" if checked(tree, mutant.crate) else said
         return said
     finally:
         path.write_text(text)
 
 
 def made(crate, part):
-    """as many as were asked for, by the seed, no two of one place before each place had one"""
+    """all mutants in the seed's order, no two of one place before each place had one; and how many they are"""
     dice = random.Random(f"{SEED} {crate} {part}")
     all_ = list(mutants(crate, part))
     dice.shuffle(all_)
@@ -271,57 +290,70 @@ def made(crate, part):
     return (first + rest), len(all_)
 
 
+class Trees:
+    """copies of the tree, one for each mutant that is tried at a time"""
+
+    def __init__(self, work):
+        self.all, self.free, self.pool = [work / str(job) for job in range(JOBS)], Queue(), ThreadPoolExecutor(JOBS)
+        for tree in self.all:
+            shutil.copytree(ROOT, tree, ignore=shutil.ignore_patterns(".git", "must-fail", "inc", "compare"))
+            self.free.put(tree)
+
+    def ready(self, crate):
+        for done in self.pool.map(lambda tree: run(tree, "dev", crate), self.all):
+            if done.returncode:
+                sys.exit(f"mutants: {crate} is not proved as it stands:\n{done.stdout[-2000:]}")
+
+    def try_one(self, mutant):
+        tree = self.free.get()
+        try:
+            return mutant, tried(mutant, tree)
+        finally:
+            self.free.put(tree)
+
+    def try_some(self, waiting):
+        """as many as were asked for; what is no program is none of them"""
+        good, bad = 0, 0
+        while waiting and good < EACH and bad < 4 * EACH:
+            batch, waiting = waiting[:EACH - good], waiting[EACH - good:]
+            for mutant, said in self.pool.map(self.try_one, batch):
+                bad += said == "no program"
+                good += said != "no program"
+                yield mutant, said
+
+
+def try_part(trees, crate, part, known):
+    """the rows of those that survived unexplained"""
+    waiting, there = made(crate, part)
+    count, listed = {}, []
+    for mutant, said in trees.try_some(waiting):
+        row = (f"{crate}/{mutant.file}", *mutant.line_of((ROOT / "crates" / crate / mutant.file).read_text()))
+        if said == "survived" and row in known:
+            said = "explained"
+        elif said == "survived":
+            listed.append(row)
+        count[said] = count.get(said, 0) + 1
+        if said not in ("refused", "no program") or SAY:
+            print(f"mutants: %s: {said}: %s  =>  %s" % row, flush=True)
+    tried_ = sum(n for said, n in count.items() if said != "no program")
+    print(f"mutants: {crate} {part}: {tried_} of {there}: " + (", ".join(f"{n} {said}" for said, n in sorted(count.items())) or "none"), flush=True)
+    return listed
+
+
 def main():
     uses = crates()
     asked = sys.argv[1:] or list(uses)
     for crate in asked:
         if crate not in uses:
             sys.exit(f"mutants: there is no crate {crate}")
-    known, listed, counts = explained(), [], {}
+    known, listed = explained(), []
     work = Path(tempfile.mkdtemp(prefix="mutants-"))
     try:
-        trees = Queue()
-        for job in range(JOBS):
-            tree = work / str(job)
-            ignore = shutil.ignore_patterns(".git", "must-fail", "must-fail.*", "inc", "compare")
-            shutil.copytree(ROOT, tree, ignore=ignore)
-            trees.put(tree)
-
-        def try_one(mutant):
-            tree = trees.get()
-            try:
-                return mutant, tried(mutant, tree)
-            finally:
-                trees.put(tree)
-
-        with ThreadPoolExecutor(JOBS) as pool:
-            for crate in asked:
-                ready = list(pool.map(lambda t: (t, run(t, "dev", crate)), [work / str(j) for j in range(JOBS)]))
-                for tree, done in ready:
-                    if done.returncode:
-                        sys.exit(f"mutants: {crate} is not proved as it stands:\n{done.stdout[-2000:]}")
-                for part in PARTS:
-                    waiting, all_ = made(crate, part)
-                    count = {}
-                    # what is no program is none of those asked for
-                    while waiting and sum(count.values()) - count.get("no program", 0) < EACH and count.get("no program", 0) < 4 * EACH:
-                        now = EACH - (sum(count.values()) - count.get("no program", 0))
-                        batch, waiting = waiting[:now], waiting[now:]
-                        for mutant, said in pool.map(try_one, batch):
-                            count[said] = count.get(said, 0) + 1
-                            text = (ROOT / "crates" / crate / mutant.file).read_text()
-                            before, after = mutant.line_of(text)
-                            if said == "survived":
-                                row = (f"{crate}/{mutant.file}", before, after)
-                                if row not in known:
-                                    listed.append(row)
-                                said += " (explained)" if row in known else ""
-                            if said != "refused" or os.environ.get("SAY"):
-                                if said != "no program" or os.environ.get("SAY"):
-                                    print(f"mutants: {crate}/{mutant.file}: {said}: {before}  =>  {after}", flush=True)
-                    counts[crate, part] = count
-                    total = sum(n for said, n in count.items() if said != "no program")
-                    print(f"mutants: {crate} {part}: {total} of {all_} tried, " + (", ".join(f"{n} {said}" for said, n in sorted(count.items())) or "none there"), flush=True)
+        trees = Trees(work)
+        for crate in asked:
+            trees.ready(crate)
+            for part in PARTS:
+                listed += try_part(trees, crate, part, known)
     finally:
         shutil.rmtree(work, ignore_errors=True)
     for row in listed:
