@@ -1,7 +1,8 @@
 #!/bin/sh
 # moved.sh FROM: make moved FROM=commit. Prints the skeleton of an entry of docs/CHANGES.md: for each crate which definitions, laws, public promises
-# and proofs differ between that commit and this one, by name, and what rt prove takes at each, from nothing, one crate at a time. What differs is its
-# own text: neither layout, comments and lines of use, nor what it cites. SECONDS_TOO=0 leaves the times out; CRATES="lists terms" looks at these alone.
+# and proofs differ between that commit and this one, by name (taken: as another crate had it), and what rt prove takes at each, from nothing, one
+# crate at a time. What differs is its own text: neither layout, comments and lines of use, nor what it cites. SECONDS_TOO=0 leaves the times out;
+# CRATES="lists terms" looks at these alone.
 cd "$(dirname "$0")/.." || exit 1
 . tools/facts.sh
 say() {
@@ -134,7 +135,7 @@ awk -F '\t' -v timed="$SECONDS_TOO" -v machine="$(uname -m)" '
     function place(name) { sub(/(\.|::)?[^.:]*$/, "", name); return name ? name : "the top" }
     # each way in which a crate'"'"'s names of a kind differ: how many, or which
     function ways(crate, kind, by_name,    i, said) {
-        for (i = 1; i <= 4; i++) if ((crate, kind, how[i]) in count)
+        for (i = 1; i <= 5; i++) if ((crate, kind, how[i]) in count)
             said = said (said ? ", " : "") (by_name ? how[i] " " list[crate, kind, how[i]] : count[crate, kind, how[i]] " " how[i])
         return said
     }
@@ -145,10 +146,10 @@ awk -F '\t' -v timed="$SECONDS_TOO" -v machine="$(uname -m)" '
     part == "from names" { old[key] = old[key] $4; next }
     { new[key] = new[key] $4 }
     END {
-        split("added gone changed elsewhere", how, " ")
+        split("added gone changed elsewhere taken", how, " ")
         split("definition law promise proof", kinds, " ")
         split("from now", tree, " ")
-        for (i = 1; i <= m; i++) if (!(keys[i] in new)) { split(keys[i], k, FS); left[k[1], k[2], old[keys[i]]] = keys[i] }
+        for (i = 1; i <= m; i++) if (!(keys[i] in new)) { split(keys[i], k, FS); left[k[1], k[2], old[keys[i]]] = left[k[2], old[keys[i]]] = keys[i] }
         for (i = 1; i <= m; i++) {
             key = keys[i]
             split(key, k, FS)
@@ -162,6 +163,13 @@ awk -F '\t' -v timed="$SECONDS_TOO" -v machine="$(uname -m)" '
                 delete left[k[1], k[2], new[key]]
                 away[was]
                 differs(k[1], k[2], "elsewhere", place(w[3]) "` to `" place(k[3]))
+            # .. and one that another crate had
+            } else if (!(key in old) && k[2] != "promise" && (k[2], new[key]) in left && !(left[k[2], new[key]] in away)) {
+                was = left[k[2], new[key]]
+                split(was, w, FS)
+                away[was]
+                differs(w[1], k[2], "elsewhere", place(w[3]) "` to `" k[1])
+                differs(k[1], k[2], "taken", place(k[3]) "` from `" w[1])
             } else if (!(key in old)) differs(k[1], k[2], "added", k[3])
             else if (old[key] != new[key]) differs(k[1], k[2], "changed", k[3])
         }
