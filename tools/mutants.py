@@ -314,7 +314,7 @@ class Trees:
     def try_some(self, waiting):
         """as many as were asked for; what is no program is none of them"""
         good, bad = 0, 0
-        while waiting and good < EACH and bad < 4 * EACH:
+        while waiting and good < EACH and bad < 8 * EACH:
             batch, waiting = waiting[:EACH - good], waiting[EACH - good:]
             for mutant, said in self.pool.map(self.try_one, batch):
                 bad += said == "no program"

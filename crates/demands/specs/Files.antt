@@ -10,7 +10,7 @@ use Rattle.session.specs.declared.{Session.Session}
 use Rattle.session.specs.State.{freshSession}
 use Rattle.records.specs.declared.{Piece.Piece}
 use Rattle.records.specs.Pieces.{pieceAt}
-use Rattle.lines.specs.Put.{Wrote}
+use Rattle.lists.specs.Put.{Wrote}
 use Rattle.transcript.specs.declared.{Stop.Stop}
 use Rattle.transcript.specs.Transcript.{printed}
 use Rattle.transcript.specs.Steps.{recordRoom}

@@ -10,7 +10,7 @@ use lib.Dec.{ltb}
 use lib.ListN.{length, set, drop, length-append, length-set}
 use lib.Seq.{drop-length, drop-at}
 use Rattle.lines.specs.Text.{digit, pair, digits, mostDigits, decimal}
-use Rattle.lines.specs.Put.{put, Wrote, put-nothing, put-before, put-then}
+use Rattle.lists.specs.Put.{put, Wrote, put-nothing, put-before, put-then}
 
 -- the last n digits of a number, zeros in front where it has fewer
 unfoldable pub tens : ℕ → ℕ → List ℕ

@@ -6,7 +6,6 @@ pub mod Words
 pub mod Line
 pub mod Examples
 -- its laws
-pub mod Put
 pub mod Lengths
 -- as the code computes it
 pub mod Decimal

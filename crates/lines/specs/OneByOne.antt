@@ -9,7 +9,7 @@ use lib.ListN.{length, getD, take, length-append}
 use lib.Seq.{take-suc, take-length}
 use Rattle.lines.specs.Text.{newline, numeral, texts}
 use Rattle.lines.specs.Line.{numbers}
-use Rattle.lines.specs.Put.{Wrote, put-nothing, put-then}
+use Rattle.lists.specs.Put.{Wrote, put-nothing, put-then}
 
 module _ {A : Type 0} (f : A → List ℕ) where
   texts-append : (xs : List A) (x : A) → texts f (xs ++ (x ∷ [])) ≡ texts f xs ++ f x

@@ -7,7 +7,7 @@ use lib.ListN.{length, take}
 use Rattle.lines.specs.declared.{words.Word.Word, Line.Line}
 use Rattle.lines.specs.Text.{digit, decimal, space, newline}
 use Rattle.lines.specs.Line.{numbersOf, numbers, worded, answerText, numberedLine, numberTold, doneLine}
-use Rattle.lines.specs.Put.{Wrote, put-then}
+use Rattle.lists.specs.Put.{Wrote, put-then}
 use Rattle.lines.specs.Decimal.{digits-small}
 use Rattle.lines.specs.Words.{wordText, wordNumbers}
 

@@ -4,7 +4,7 @@ ghost use mathlib.Core.List.{_∷_, []};
 ghost use Prim.Native.Nat.{_+_, _≤_, _<_};
 ghost use lib.ListN.{length};
 ghost use Rattle.lines.specs.Text.{mostDigits, decimal, digit, pair, space, numeralRoom};
-ghost use Rattle.lines.specs.Put.{Wrote};
+ghost use Rattle.lists.specs.Put.{Wrote};
 
 const SPACE: u8 = 32;
 

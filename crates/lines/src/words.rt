@@ -6,7 +6,7 @@ ghost use Prim.Native.Nat.{_+_, _≤_};
 ghost use lib.ListN.{length};
 ghost use Rattle.lines.specs.Text.{space};
 ghost use Rattle.lines.specs.Words.{wordText, wordNumbers, wordRoom};
-ghost use Rattle.lines.specs.Put.{Wrote};
+ghost use Rattle.lists.specs.Put.{Wrote};
 
 // The word of a line: the kind of record that it is about.
 pub enum Word {

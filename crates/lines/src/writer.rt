@@ -14,7 +14,7 @@ ghost use Rattle.terms.specs.Bounds.{numbersPerTrade};
 ghost use Rattle.trades.specs.Written.{tradesRead};
 ghost use Rattle.lines.specs.Line.{numbers, answerText, lineOf, doneLine, tradeLine, tradeLines, faultLine, endLine};
 ghost use Rattle.lines.specs.Lengths.{numbersRoom, answerRoom, lineRoom, tradeRoom, faultRoom, endRoom};
-ghost use Rattle.lines.specs.Put.{Wrote};
+ghost use Rattle.lists.specs.Put.{Wrote};
 
 const NEWLINE: u8 = 10;
 

@@ -31,7 +31,7 @@ next-place bytes place {r} {next} e = go (leb (length bytes) place) (isFaulty by
       let g = good-record bytes place q in
       (omega (arith, n, g), omega (arith, n, g))
 
-nothing-left : (n : ℕ) (bytes : List ℕ) (place : ℕ) → length bytes ≤ place → walkFrom n bytes place ≡ ended false
+pub nothing-left : (n : ℕ) (bytes : List ℕ) (place : ℕ) → length bytes ≤ place → walkFrom n bytes place ≡ ended false
 unfolding walkFrom
 nothing-left zero bytes place h = refl
 nothing-left (suc n) bytes place h = rw (read-end bytes place h)

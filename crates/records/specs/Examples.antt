@@ -1,10 +1,11 @@
--- Worked examples: the start record of 01 "Session file", and each thing that ends a walk.
+-- Worked examples: the start record of 01 "Session file", read and written, and each thing that ends a walk.
 use mathlib.Core.Bool.{true, false}
 use mathlib.Core.Path.{_≡_, refl}
 use Prim.Native.Nat.{ℕ}
 use mathlib.Core.List.{List, [], _∷_, _++_}
 use Rattle.records.specs.declared.{kinds.Record.Record}
 use Rattle.records.specs.Fields.{number, isLength}
+use Rattle.records.specs.Bytes.{recordBytes, fileOf}
 use Rattle.records.specs.Walk.{Read, recordAt, walkFrom, walk}
 
 -- 18 00 01 00 64 00 00 00 A0 86 01 00 09 00 96 00 00 10 A5 D4 E8 00 00 00
@@ -12,17 +13,31 @@ abbrev startBytes : List ℕ
 startBytes =
     0x18 ∷ 0x00 ∷ 0x01 ∷ 0x00 ∷ 0x64 ∷ 0x00 ∷ 0x00 ∷ 0x00 ∷ 0xA0 ∷ 0x86 ∷ 0x01 ∷ 0x00 ∷ 0x09 ∷ 0x00 ∷ 0x96 ∷ 0x00 ∷ 0x00 ∷ 0x10 ∷ 0xA5 ∷ 0xD4 ∷ 0xE8 ∷ 0x00 ∷ 0x00 ∷ 0x00 ∷ []
 
-start-read : recordAt startBytes 0 ≡ Read.Record (Record.Start (record { step = 100; reference = 100_000; factor = 9; threshold = 150; most = 1_000_000_000_000 })) 24
+abbrev startRecord : Record
+startRecord = Record.Start (record { step = 100; reference = 100_000; factor = 9; threshold = 150; most = 1_000_000_000_000 })
+
+start-read : recordAt startBytes 0 ≡ Read.Record startRecord 24
 unfolding recordAt isLength number
 start-read = refl
+
+start-written : recordBytes startRecord ≡ startBytes
+unfolding recordBytes
+start-written = refl
 
 -- member 258, sell, till a later day, 1, unlimited; behind the start record
 abbrev orderBytes : List ℕ
 orderBytes = 16 ∷ 0 ∷ 2 ∷ 0 ∷ 2 ∷ 1 ∷ 2 ∷ 4 ∷ 1 ∷ 0 ∷ 0 ∷ 0 ∷ 0 ∷ 0 ∷ 0 ∷ 0 ∷ []
 
-order-read : recordAt (startBytes ++ orderBytes) 24 ≡ Read.Record (Record.Order (record { member = 258; side = 2; validity = 4; quantity = 1; limit = 0 })) 40
+abbrev orderRecord : Record
+orderRecord = Record.Order (record { member = 258; side = 2; validity = 4; quantity = 1; limit = 0 })
+
+order-read : recordAt (startBytes ++ orderBytes) 24 ≡ Read.Record orderRecord 40
 unfolding recordAt isLength number
 order-read = refl
+
+both-written : fileOf (startRecord ∷ orderRecord ∷ []) ≡ startBytes ++ orderBytes
+unfolding recordBytes
+both-written = refl
 
 delete-read : recordAt (10 ∷ 0 ∷ 3 ∷ 0 ∷ 1 ∷ 2 ∷ 0 ∷ 0 ∷ 7 ∷ 0 ∷ []) 0 ≡ Read.Record (Record.Delete (record { number = 513; member = 7 })) 10
 unfolding recordAt isLength number

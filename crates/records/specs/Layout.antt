@@ -4,7 +4,7 @@ use mathlib.Core.Path.{_≡_, refl, _∙_, ap}
 use mathlib.Core.List.{List, [], _∷_, _++_, append-assoc}
 use native.Mathlib.Nat.{pow-suc, mod-add-div}
 use native.Mathlib.Omega.{arith}
-use lib.ListN.{length, take, drop, getD}
+use lib.ListN.{length, take, drop, getD, length-append}
 use lib.Seq.{take-all, take-add, drop-drop, drop-cons, drop-at}
 use Rattle.records.specs.Fields.{number, layoutLength, fieldsFrom, fieldsOf}
 use Rattle.records.specs.Numbers.{number-moved}
@@ -30,6 +30,12 @@ Fit (w ∷ ws) (n ∷ ns) = (n < 256 ^ w) × Fit ws ns
 bytes-length : (n x : ℕ) → length (numberBytes n x) ≡ n
 bytes-length zero x = refl
 bytes-length (suc n) x = ap suc (bytes-length n (x / 256))
+
+-- a number for each width, whatever it is: as many bytes as the widths say
+pub bytes-count : (ws ns : List ℕ) → length ns ≡ length ws → length (bytesOf ws ns) ≡ layoutLength ws
+bytes-count [] ns h = refl
+bytes-count (w ∷ ws) [] h = omega (arith, h)
+bytes-count (w ∷ ws) (n ∷ ns) h = rw (length-append (numberBytes w n) (bytesOf ws ns), bytes-length w n, bytes-count ws ns (omega (arith, h)))
 
 number-read : (n x : ℕ) (rest : List ℕ) → x < 256 ^ n → number (numberBytes n x ++ rest) 0 n ≡ x
 unfolding number
@@ -68,7 +74,8 @@ bytes-read (suc n) part place h small =
     let high : (least + 256 * more) / 256 ≡ more = omega (arith, small place) in
     rw (low, high, bytes-read n part (suc place) (omega arith) small, drop-cons part place 0 (omega arith))
 
-bytes-taken : (ws part : List ℕ) (place : ℕ) → place + layoutLength ws ≤ length part → ((i : ℕ) → getD part i 0 < 256)
+-- the bytes from a place on whose numbers are read are written back
+pub bytes-taken : (ws part : List ℕ) (place : ℕ) → place + layoutLength ws ≤ length part → ((i : ℕ) → getD part i 0 < 256)
     → bytesOf ws (fieldsFrom ws part place) ≡ take (layoutLength ws) (drop place part)
 bytes-taken [] part place h small = refl
 bytes-taken (w ∷ ws) part place h small =
@@ -79,6 +86,6 @@ bytes-taken (w ∷ ws) part place h small =
       drop-drop w place part,
     )
 
--- the bytes whose numbers are read are written back
+-- .. and so is a whole part
 pub bytes-back : (ws part : List ℕ) → length part ≡ layoutLength ws → ((i : ℕ) → getD part i 0 < 256) → bytesOf ws (fieldsOf ws part) ≡ part
 bytes-back ws part h small = bytes-taken ws part 0 (omega arith) small ∙ take-all (layoutLength ws) part (omega arith)

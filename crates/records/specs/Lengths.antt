@@ -2,11 +2,11 @@
 use Prim.Native.Nat.{ℕ, _+_, _*_, _<_}
 use mathlib.Core.Bool.{Bool, true, false, not, _&&_, true≢false}
 use mathlib.Core.Path.{_≡_, refl, sym, _∙_, ap}
-use mathlib.Core.List.{List, _++_}
+use mathlib.Core.List.{List, [], _∷_, _++_}
 use lib.Dec.{eqb}
 use native.Mathlib.Omega.{arith}
 use borrow.Author.Tests.{eq-eqb, ne-eqb, eqb-true}
-use Rattle.records.specs.Fields.{headerLength, kindLength, isLength}
+use Rattle.records.specs.Fields.{headerLength, layoutLength, wholeLength, kindLength, isLength}
 
 -- a record's length has two bytes: every record is shorter
 abbrev pub lengthBound : ℕ
@@ -16,22 +16,33 @@ lengthBound = 65_536
 abbrev pub headOf : ℕ → ℕ
 headOf kind = kindLength kind + 65_536 * kind
 
+-- what holds of each kind holds of every known one
+pub of-known : (P : ℕ → Type 0) → P 1 → P 2 → P 3 → P 4 → (kind : ℕ) → eqb (kindLength kind) 0 ≡ false → P kind
+of-known P one two three four kind h = go (eqb kind 1) (eqb kind 2) (eqb kind 3) (eqb kind 4) refl refl refl refl where
+  go : (a b c d : Bool) → eqb kind 1 ≡ a → eqb kind 2 ≡ b → eqb kind 3 ≡ c → eqb kind 4 ≡ d → P kind
+  go true b c d p q r s = rw (eqb-true kind 1 p) one
+  go false true c d p q r s = rw (eqb-true kind 2 q) two
+  go false false true d p q r s = rw (eqb-true kind 3 r) three
+  go false false false true p q r s = rw (eqb-true kind 4 s) four
+  go false false false false p q r s = absurd (true≢false (rw (p, q, r, s) at h))
+
 -- every known kind has a field, and its length two bytes
 pub known-length : (kind : ℕ) → eqb (kindLength kind) 0 ≡ false → (headerLength < kindLength kind) × (kindLength kind < lengthBound)
-known-length kind h = go (eqb kind 1) (eqb kind 2) (eqb kind 3) (eqb kind 4) refl refl refl refl where
-  go : (a b c d : Bool) → eqb kind 1 ≡ a → eqb kind 2 ≡ b → eqb kind 3 ≡ c → eqb kind 4 ≡ d → (headerLength < kindLength kind) × (kindLength kind < lengthBound)
-  go true b c d p q r s = rw p (omega arith)
-  go false true c d p q r s = rw (p, q) (omega arith)
-  go false false true d p q r s = rw (p, q, r) (omega arith)
-  go false false false true p q r s = rw (p, q, r, s) (omega arith)
-  go false false false false p q r s = absurd (true≢false (rw (p, q, r, s) at h))
+known-length =
+    of-known (λ (kind : ℕ). (headerLength < kindLength kind) × (kindLength kind < lengthBound))
+    (omega arith, omega arith) (omega arith, omega arith) (omega arith, omega arith) (omega arith, omega arith)
+
+-- .. and is its header's and its fields' together
+pub length-parts : (ws : List ℕ) → eqb (wholeLength ws) 0 ≡ false → wholeLength ws ≡ headerLength + layoutLength ws
+length-parts [] h = absurd (true≢false h)
+length-parts (w ∷ ws) h = refl
 
 both : (a b : Bool) → not a && b ≡ true → (a ≡ false) × (b ≡ true)
 both true b h = absurd (true≢false (sym h))
 both false b h = (refl, h)
 
 -- what isLength says: a known kind, and its length
-length-is : (kind : ℕ) (bytes : List ℕ) (length : ℕ) → isLength kind bytes length ≡ true → (eqb (kindLength kind) 0 ≡ false) × (length ≡ kindLength kind)
+pub length-is : (kind : ℕ) (bytes : List ℕ) (length : ℕ) → isLength kind bytes length ≡ true → (eqb (kindLength kind) 0 ≡ false) × (length ≡ kindLength kind)
 unfolding isLength
 length-is kind bytes length h = let n = both (eqb (kindLength kind) 0) (eqb length (kindLength kind)) h in (n .0, eqb-true _ _ (n .1))
 

@@ -3,11 +3,13 @@
 -- the paper
 pub mod Fields
 pub mod Walk
+pub mod Bytes
 pub mod Examples
 -- its laws
 pub mod Layout
 pub mod Ends
 pub mod Pieces
+pub mod RoundTrip
 -- as the code computes it
 pub mod Numbers
 pub mod Lengths

@@ -32,10 +32,15 @@ pub read-record : (bytes : List ℕ) (place : ℕ) → place < length bytes → 
 unfolding recordAt
 read-record bytes place h f = rw (lt-leb _ _ h, f)
 
--- a good record has a field, and the file holds it whole
+-- a good record's header is good
+pub good-header : (bytes : List ℕ) (place : ℕ) → isFaulty bytes place ≡ false → isHeader bytes place ≡ true
+good-header bytes place f =
+    let n = neither (ltb (length bytes) (place + headerLength) || not (isHeader bytes place)) (isCut bytes place) f in
+    not-false (isHeader bytes place) (neither (ltb (length bytes) (place + headerLength)) (not (isHeader bytes place)) (n .0) .1)
+
+-- .. it has a field, and the file holds it whole
 pub good-record : (bytes : List ℕ) (place : ℕ) → isFaulty bytes place ≡ false
     → (headerLength < lengthAt bytes place) × (place + lengthAt bytes place ≤ length bytes)
 good-record bytes place f =
     let n = neither (ltb (length bytes) (place + headerLength) || not (isHeader bytes place)) (isCut bytes place) f in
-    let h = neither (ltb (length bytes) (place + headerLength)) (not (isHeader bytes place)) (n .0) in
-    (length-above (kindAt bytes place) (drop place bytes) (lengthAt bytes place) (not-false (isHeader bytes place) (h .1)), ltb-false _ _ (n .1))
+    (length-above (kindAt bytes place) (drop place bytes) (lengthAt bytes place) (good-header bytes place f), ltb-false _ _ (n .1))

@@ -17,7 +17,7 @@ use Rattle.records.specs.Walk.{Walk, Read, recordAt, after, goOn, walkFrom}
 use Rattle.records.specs.Ends.{reads-suffice}
 use Rattle.records.specs.Lengths.{lengthBound}
 use Rattle.records.specs.Pieces.{needsMore, waits-short, settled-read, movedBy, moved-read}
-use Rattle.lines.specs.Put.{put, put-length}
+use Rattle.lists.specs.Put.{put, put-length}
 use Rattle.transcript.specs.declared.{Stop.Stop, Next.Next, Telling.Telling}
 use Rattle.transcript.specs.Transcript.{step, stepLines, lastLines, linesFrom, printed}
 use Rattle.transcript.specs.Steps.{recordRoom}

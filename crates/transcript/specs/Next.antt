@@ -10,7 +10,7 @@ use Rattle.records.specs.Walk.{Read, recordAt}
 use Rattle.records.specs.declared.{Piece.Piece}
 use Rattle.records.specs.Pieces.{needsMore, pieceOf, pieceAt}
 use Rattle.lines.specs.Line.{faultLine, endLine}
-use Rattle.lines.specs.Put.{Wrote, put-then}
+use Rattle.lists.specs.Put.{Wrote, put-then}
 use Rattle.transcript.specs.declared.{Stop.Stop, Next.Next}
 use Rattle.transcript.specs.Steps.{recordRoom}
 use Rattle.transcript.specs.Told.{nextOf, nextTold, lastOf}

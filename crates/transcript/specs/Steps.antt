@@ -26,7 +26,7 @@ use Rattle.session.specs.State.{part}
 use Rattle.records.specs.declared.{kinds.Record.Record, kinds.Deletion.Deletion}
 use Rattle.lines.specs.Line.{lineOf, tradeLines, numberedLine, doneLine}
 use Rattle.lines.specs.Lengths.{lineRoom, tradeRoom, line-length, trades-room}
-use Rattle.lines.specs.Put.{Wrote, put-then}
+use Rattle.lists.specs.Put.{Wrote, put-then}
 use Rattle.transcript.specs.declared.{Stepped.Stepped, Doing.Doing}
 use Rattle.transcript.specs.Transcript.{Step, step, stepLines, lent, orderStep, deleteStep}
 use Rattle.terms.specs.declared.kinds.{Price.Price}

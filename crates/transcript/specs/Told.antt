@@ -9,7 +9,7 @@ use Rattle.records.specs.declared.{kinds.Record.Record}
 use Rattle.records.specs.Walk.{Read, recordAt}
 use Rattle.records.specs.Pieces.{needsMore}
 use Rattle.lines.specs.Lengths.{lineRoom}
-use Rattle.lines.specs.Put.{put}
+use Rattle.lists.specs.Put.{put}
 use Rattle.transcript.specs.declared.{Stop.Stop, Next.Next, Telling.Telling}
 use Rattle.transcript.specs.Transcript.{step, stepLines, lastLines}
 use Rattle.transcript.specs.Steps.{recordRoom}

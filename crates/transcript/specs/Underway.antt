@@ -11,7 +11,7 @@ use lib.Seq.{length-take-le, take-at}
 use Rattle.session.specs.declared.{Session.Session}
 use Rattle.session.specs.Sound.{Sound}
 use Rattle.records.specs.declared.{kinds.Record.Record}
-use Rattle.lines.specs.Put.{put, Wrote, put-append, put-nothing, put-room}
+use Rattle.lists.specs.Put.{put, Wrote, put-append, put-nothing, put-room}
 use Rattle.transcript.specs.declared.{Stop.Stop, Next.Next, Stepped.Stepped, Telling.Telling}
 use Rattle.transcript.specs.Transcript.{step, stepLines}
 use Rattle.transcript.specs.Steps.{WroteStep, step-sound}

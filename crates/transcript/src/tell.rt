@@ -32,7 +32,7 @@ ghost use Rattle.terms.specs.Bounds.{tradeListLength};
 ghost use mathlib.Core.Bool.{true};
 ghost use Rattle.session.specs.State.{freshSession};
 ghost use Rattle.session.specs.Sound.{Sound};
-ghost use Rattle.lines.specs.Put.{Wrote, put};
+ghost use Rattle.lists.specs.Put.{Wrote, put};
 ghost use Rattle.transcript.specs.Told.{nextTold as Told·nextTold, recordsTold, haltOf, lastOf, lastRoom, faults, tellingLeaves, told as Told·told};
 
 const RECORD_ROOM: usize = LINE_ROOM + TRADE_ROOM * Trade::MOST;

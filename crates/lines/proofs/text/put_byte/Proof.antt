@@ -1,5 +1,5 @@
 -- One write.
-use Rattle.lines.specs.Put.{put-set}
+use Rattle.lists.specs.Put.{put-set}
 use native.Mathlib.Omega.{arith}
 use borrow.Author.Needs.{needs}
 use Rattle.lines.proofs.text.put_byte.Statement.{statement}

@@ -3,7 +3,7 @@ use native.Mathlib.Omega.{arith}
 use borrow.Author.Needs.{needs}
 use mathlib.Core.List.{[], _∷_}
 use Rattle.lines.specs.Text.{space, decimal}
-use Rattle.lines.specs.Put.{put-then}
+use Rattle.lists.specs.Put.{put-then}
 use Rattle.lines.proofs.text.put_number.Statement.{statement}
 use Rattle.lines.proofs.text.put_number.Tie as tie
 

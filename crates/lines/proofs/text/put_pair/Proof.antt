@@ -2,7 +2,7 @@
 use mathlib.Core.List.{[], _∷_}
 use Prim.Native.Nat.{_/_, _%_}
 use Rattle.lines.specs.Text.{digit}
-use Rattle.lines.specs.Put.{put-then}
+use Rattle.lists.specs.Put.{put-then}
 use native.Mathlib.Omega.{arith}
 use borrow.Author.Needs.{needs}
 use Rattle.lines.proofs.text.put_pair.Statement.{statement}

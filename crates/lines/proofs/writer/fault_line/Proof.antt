@@ -3,7 +3,7 @@ use mathlib.Core.List.{[], _∷_}
 use Rattle.lines.specs.Text.{decimal, faultWord}
 use Rattle.lines.specs.Decimal.{decimal-length}
 use Rattle.lines.specs.Line.{worded}
-use Rattle.lines.specs.Put.{put-then}
+use Rattle.lists.specs.Put.{put-then}
 use Rattle.lines.specs.Placed.{short-then}
 use native.Mathlib.Omega.{arith}
 use borrow.Author.Needs.{needs}

@@ -4,7 +4,7 @@ use borrow.Author.Needs.{needs}
 use Rattle.lines.specs.Text.{decimal}
 use Rattle.lines.specs.Decimal.{decimal-length}
 use Rattle.lines.specs.Line.{answerText}
-use Rattle.lines.specs.Put.{put-then}
+use Rattle.lists.specs.Put.{put-then}
 use Rattle.lines.proofs.writer.line_of.Statement.{statement}
 use Rattle.lines.proofs.writer.line_of.Tie as tie
 

@@ -2,7 +2,7 @@
 use mathlib.Core.List.{[], _∷_}
 use Rattle.lines.specs.Text.{tradeWord}
 use Rattle.lines.specs.Line.{numbers}
-use Rattle.lines.specs.Put.{put-then}
+use Rattle.lists.specs.Put.{put-then}
 use native.Mathlib.Omega.{arith}
 use borrow.Author.Needs.{needs}
 use Rattle.lines.proofs.writer.trade_line.Statement.{statement}

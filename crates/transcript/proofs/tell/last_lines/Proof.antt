@@ -3,7 +3,7 @@ use Prim.Native.Nat.{_+_}
 use borrow.Author.Needs.{needs}
 use native.Mathlib.Omega.{arith}
 use Rattle.lines.specs.Lengths.{fault-length}
-use Rattle.lines.specs.Put.{put-nothing}
+use Rattle.lists.specs.Put.{put-nothing}
 use Rattle.transcript.specs.Next.{fault-last}
 use Rattle.transcript.proofs.tell.last_lines.Statement.{statement}
 use Rattle.transcript.proofs.tell.last_lines.Tie as tie

@@ -1,0 +1,227 @@
+-- Records written and read, K1: what is written is read back, and what is read of a good file is written back.
+use Prim.Native.Nat.{ℕ, zero, suc, _+_, _-_, _^_, _≤_, _<_}
+use mathlib.Core.Bool.{Bool, true, false, not, _&&_, true≢false}
+use mathlib.Core.Path.{_≡_, refl, sym, _∙_, ap}
+use mathlib.Core.Logic.{⊎-elim}
+use mathlib.Core.List.{List, [], _∷_, _++_, append-nil, append-assoc}
+use native.Mathlib.Omega.{arith}
+use lib.Dec.{T, eqb, leb, ltb}
+use lib.ListN.{length, take, drop, getD, length-append, length-take, length-drop, take-append-drop, drop-of-length-le, List·getD-eq-default}
+use lib.Seq.{take-at, drop-append-seam, take-add, drop-drop, getD-take, getD-drop}
+use borrow.Author.Tests.{le-ltb, leb-true, leb-false}
+use Rattle.lists.specs.Tests.{tests, decided, and-both}
+use Rattle.terms.specs.Kinds.{within, isStep, isPrice, isReference, isFactor, isThreshold, isMember, isQuantity, isNumber}
+use Rattle.terms.specs.Orders.{isSide, isValidity, isLimit, limitFrom}
+use Rattle.records.specs.declared.{kinds.Record.Record}
+use Rattle.records.specs.Fields.{headerLength, widths, layoutLength, kindLength, fieldsOf, asStart, asEntry, asDeletion, asAuction, recordOf, inRange}
+use Rattle.records.specs.Bytes.{kindOf, numbersOf, lengthOf, headerWidths, headerBytes, fieldBytes, recordBytes, fileOf, allInRange}
+use Rattle.records.specs.Layout.{Fit, bytes-count, fields-back, bytes-taken, bytes-back}
+use Rattle.records.specs.Lengths.{lengthBound, of-known, known-length, length-parts, length-is, length-known}
+use Rattle.records.specs.Walk.{Read, lengthAt, kindAt, partAt, isFaulty, recordAt, Walk, after, goOn, walkFrom, walk}
+use Rattle.records.specs.Reads.{faulty-whole, read-end, read-fault, read-record, good-header, good-record}
+use Rattle.records.specs.Ends.{nothing-left}
+use Rattle.records.specs.Pieces.{moved-read}
+
+-- every record's kind is known, its number has two bytes, and it has a number for each width
+laid-out : (r : Record) → (eqb (lengthOf r) 0 ≡ false) × (kindOf r < 256 ^ 2) × (length (numbersOf r) ≡ length (widths (kindOf r)))
+laid-out (Record.Start p) = (refl, omega arith, refl)
+laid-out (Record.Order e) = (refl, omega arith, refl)
+laid-out (Record.Delete d) = (refl, omega arith, refl)
+laid-out (Record.Auction which) = (refl, omega arith, refl)
+
+-- .. so that it has a field, and its length two bytes
+length-bounds : (r : Record) → (headerLength < lengthOf r) × (lengthOf r < lengthBound)
+length-bounds r = known-length (kindOf r) (laid-out r .0)
+
+-- its length is its header's and its fields'
+fields-length : (r : Record) → headerLength + length (fieldBytes r) ≡ lengthOf r
+fields-length r =
+    let l = laid-out r in
+    rw (bytes-count (widths (kindOf r)) (numbersOf r) (l .2)) (sym (length-parts (widths (kindOf r)) (l .0)))
+
+-- a record's bytes are as many as its header says
+pub bytes-length : (r : Record) → length (recordBytes r) ≡ lengthOf r
+unfolding recordBytes
+bytes-length r = omega (arith, fields-length r)
+
+-- ---- numbers in range have room in their widths
+
+-- five tests that pass together
+five : (a b c d e : Bool) → T (a && b && c && d && e) → T a × T b × T c × T d × T e
+five true true true true e h = (tt, tt, tt, tt, h)
+five true true true false e h = absurd h
+five true true false d e h = absurd h
+five true false c d e h = absurd h
+five false b c d e h = absurd h
+
+-- a number of a range, where the highest has
+fits : (low high x width : ℕ) → T (within low high x) → T (ltb high (256 ^ width)) → x < 256 ^ width
+fits low high x width h k = let w = and-both (leb low x) (leb x high) h in omega (tests, w)
+
+-- a limit, which may be 0
+limit-fits : (x : ℕ) → T (isLimit (limitFrom x)) → x < 256 ^ 4
+limit-fits zero h = omega arith
+limit-fits (suc x) h = fits _ _ (suc x) 4 h tt
+
+-- a record's numbers, where it is in range
+pub bytes-fit : (r : Record) → T (inRange r) → Fit (widths (kindOf r)) (numbersOf r)
+bytes-fit (Record.Start p) h =
+    let (step, reference, factor, threshold, most) =
+    five (isStep (p .step)) (isReference (p .step) (p .reference)) (isFactor (p .factor)) (isThreshold (p .threshold)) _ h in
+    let (price, multiple) = and-both (isPrice (p .reference)) _ reference in
+    (fits _ _ _ 4 step tt, (fits _ _ _ 4 price tt, (fits _ _ _ 2 factor tt, (fits _ _ _ 2 threshold tt, (fits _ _ _ 8 most tt, tt)))))
+bytes-fit (Record.Order e) h =
+    let (member, side, validity, quantity, limit) =
+    five (isMember (e .member)) (isSide (e .side)) (isValidity (e .validity)) (isQuantity (e .quantity)) _ h in
+    (fits _ _ _ 2 member tt, (fits _ _ _ 1 side tt, (fits _ _ _ 1 validity tt, (fits _ _ _ 4 quantity tt, (limit-fits (e .limit) limit, tt)))))
+bytes-fit (Record.Delete d) h = let (number, member) = and-both (isNumber (d .number)) _ h in (fits _ _ _ 4 number tt, (fits _ _ _ 2 member tt, tt))
+bytes-fit (Record.Auction which) h = (fits _ _ _ 1 h tt, tt)
+
+-- ---- what is written is read back
+
+-- a record is the one that its kind and its numbers make
+record-made : (r : Record) (part : List ℕ) → fieldsOf (widths (kindOf r)) part ≡ numbersOf r → recordOf (kindOf r) part ≡ r
+record-made (Record.Start p) part e = ap (λ (ns : List ℕ). Record.Start (asStart ns)) e
+record-made (Record.Order o) part e = ap (λ (ns : List ℕ). Record.Order (asEntry ns)) e
+record-made (Record.Delete d) part e = ap (λ (ns : List ℕ). Record.Delete (asDeletion ns)) e
+record-made (Record.Auction which) part e = ap (λ (ns : List ℕ). Record.Auction (asAuction ns)) e
+
+-- .. which its bytes hold
+fields-made : (r : Record) → T (inRange r) → recordOf (kindOf r) (fieldBytes r) ≡ r
+fields-made r h = record-made r (fieldBytes r) (rw (append-nil (fieldBytes r)) at (fields-back (widths (kindOf r)) (numbersOf r) [] (bytes-fit r h)))
+
+-- a record at the front: its header, its part and then it itself are read back
+module _ (r : Record) (rest : List ℕ) where
+  abbrev bytes : List ℕ
+  bytes = recordBytes r ++ rest
+
+  header-back : fieldsOf headerWidths bytes ≡ lengthOf r ∷ kindOf r ∷ []
+  unfolding recordBytes
+  header-back = fields-back headerWidths (lengthOf r ∷ kindOf r ∷ []) (fieldBytes r ++ rest) (length-bounds r .1, (laid-out r .1, tt))
+
+  length-back : lengthAt bytes 0 ≡ lengthOf r
+  length-back = ap (λ (ns : List ℕ). getD ns 0 0) header-back
+
+  kind-back : kindAt bytes 0 ≡ kindOf r
+  kind-back = ap (λ (ns : List ℕ). getD ns 1 0) header-back
+
+  behind-header : drop headerLength bytes ≡ fieldBytes r ++ rest
+  unfolding recordBytes
+  behind-header = refl
+
+  part-back : partAt bytes 0 ≡ fieldBytes r
+  part-back = rw (length-back, behind-header) (take-at (fieldBytes r) rest (lengthOf r - headerLength) (omega (arith, fields-length r)))
+
+  whole-there : lengthOf r ≤ length bytes
+  whole-there = rw (length-append (recordBytes r) rest, bytes-length r) (omega arith)
+
+  good : isFaulty bytes 0 ≡ false
+  good =
+      sym (faulty-whole bytes 0 (omega (arith, length-bounds r, whole-there))) ∙
+      rw (length-back, kind-back, length-known (kindOf r) bytes (laid-out r .0), le-ltb (length bytes) (0 + lengthOf r) (omega (arith, whole-there)))
+
+  front-back : T (inRange r) → recordAt bytes 0 ≡ Read.Record r (lengthOf r)
+  front-back h =
+      let e : 0 + lengthOf r ≡ lengthOf r = omega arith in
+      read-record bytes 0 (omega (arith, length-bounds r, whole-there)) good ∙ rw (part-back, length-back, kind-back, fields-made r h, e)
+
+-- a record is read back wherever it stands
+pub record-back : (front rest : List ℕ) (r : Record) → T (inRange r)
+    → recordAt (front ++ recordBytes r ++ rest) (length front) ≡ Read.Record r (length front + lengthOf r)
+record-back front rest r h =
+    let e : length front + 0 ≡ length front = omega arith in
+    let m = rw e at (moved-read (length front) (front ++ (recordBytes r ++ rest)) 0) in
+    rw (append-assoc front (recordBytes r) rest) (m ∙ rw (drop-append-seam front (recordBytes r ++ rest), front-back r rest h))
+
+-- .. and so are all of a file, as far as the reads suffice
+walk-back : (rs : List Record) (n : ℕ) (front : List ℕ) → T (allInRange rs) → length (fileOf rs) ≤ n
+    → walkFrom n (front ++ fileOf rs) (length front) ≡ record { records = rs; faulty = false }
+unfolding walkFrom
+walk-back [] n front h k = nothing-left n (front ++ []) (length front) (rw (append-nil front) (omega arith))
+walk-back (r ∷ rs) zero front h k = absurd (omega (arith, whole-there r (fileOf rs), length-bounds r))
+walk-back (r ∷ rs) (suc n) front h k =
+    let (here, behind) = and-both (inRange r) (allInRange rs) h in
+    let s = rw (length-append (recordBytes r) (fileOf rs), bytes-length r) at k in
+    let later = walk-back rs n (front ++ recordBytes r) behind (omega (arith, s, length-bounds r)) in
+    rw (← append-assoc front (recordBytes r) (fileOf rs), record-back front (fileOf rs) r here)
+    (ap (after r) (rw (length-append front (recordBytes r), bytes-length r) at later))
+
+-- ---- what is read is written back
+
+-- the record that a known kind and a part make has that kind, and the part's numbers
+kind-made : (part : List ℕ) (kind : ℕ) → eqb (kindLength kind) 0 ≡ false
+    → (kindOf (recordOf kind part) ≡ kind) × (numbersOf (recordOf kind part) ≡ fieldsOf (widths kind) part)
+kind-made part =
+    of-known (λ (kind : ℕ). (kindOf (recordOf kind part) ≡ kind) × (numbersOf (recordOf kind part) ≡ fieldsOf (widths kind) part))
+    (refl, refl) (refl, refl) (refl, refl) (refl, refl)
+
+-- a part of bytes has bytes
+part-small : (n m : ℕ) (file : List ℕ) → ((i : ℕ) → getD file i 0 < 256) → (i : ℕ) → getD (take n (drop m file)) i 0 < 256
+part-small n m file small i =
+    ⊎-elim
+    (λ (inside : T (ltb i n)). rw (getD-take n (drop m file) i 0 (omega (tests, inside)), getD-drop m file i 0) (small (m + i)))
+    (λ (outside : T (not (ltb i n))).
+    rw (List·getD-eq-default (take n (drop m file)) 0 {n = i} (rw (length-take n (drop m file)) (omega (tests, outside)))) (omega arith))
+    (decided (ltb i n))
+
+-- a good record: its header, its part and then all its bytes are written back
+module _ (file : List ℕ) (place : ℕ) (small : (i : ℕ) → getD file i 0 < 256) (f : isFaulty file place ≡ false) where
+  abbrev kind : ℕ
+  kind = kindAt file place
+
+  abbrev part : List ℕ
+  part = partAt file place
+
+  known : (eqb (kindLength kind) 0 ≡ false) × (lengthAt file place ≡ kindLength kind)
+  known = length-is kind (drop place file) (lengthAt file place) (good-header file place f)
+
+  header-written : headerBytes (recordOf kind part) ≡ take headerLength (drop place file)
+  header-written =
+      rw (kind-made part kind (known .0) .0, ← known .1) (bytes-taken headerWidths file place (omega (arith, good-record file place f)) small)
+
+  part-length : length part ≡ layoutLength (widths kind)
+  part-length =
+      rw (length-take (lengthAt file place - headerLength) (drop (place + headerLength) file), length-drop (place + headerLength) file)
+      (omega (arith, good-record file place f, known .1, length-parts (widths kind) (known .0)))
+
+  part-written : fieldBytes (recordOf kind part) ≡ part
+  part-written =
+      let m = kind-made part kind (known .0) in
+      rw (m .0, m .1) (bytes-back (widths kind) part part-length (part-small (lengthAt file place - headerLength) (place + headerLength) file small))
+
+  record-written : recordBytes (recordOf kind part) ≡ take (lengthAt file place) (drop place file)
+  unfolding recordBytes
+  record-written =
+      let more = lengthAt file place - headerLength in
+      let e : headerLength + more ≡ lengthAt file place = omega (arith, good-record file place f) in
+      ap (λ (header : List ℕ). header ++ fieldBytes (recordOf kind part)) header-written ∙
+      rw (part-written, ← drop-drop headerLength place file, ← take-add headerLength more (drop place file), e)
+
+-- what stands at a place, where it and all behind it is good
+next-written : (file : List ℕ) (place : ℕ) → ((i : ℕ) → getD file i 0 < 256) → (w : ℕ → Walk)
+    → ((next : ℕ) → place < next → w next .faulty ≡ false → fileOf (w next .records) ≡ drop next file)
+    → goOn (recordAt file place) w .faulty ≡ false → fileOf (goOn (recordAt file place) w .records) ≡ drop place file
+next-written file place small w later g = go (leb (length file) place) (isFaulty file place) refl refl where
+  go : (a b : Bool) → leb (length file) place ≡ a → isFaulty file place ≡ b → fileOf (goOn (recordAt file place) w .records) ≡ drop place file
+  go true b p q = rw (read-end file place (leb-true _ _ p)) (sym (drop-of-length-le file {i = place} (leb-true _ _ p)))
+  go false true p q = absurd (true≢false (rw (read-fault file place (leb-false _ _ p) q) at g))
+  go false false p q =
+      let e = read-record file place (leb-false _ _ p) q in
+      let l = later (place + lengthAt file place) (omega (arith, good-record file place q)) (rw e at g) in
+      rw (e, record-written file place small q, l, ← drop-drop (lengthAt file place) place file) (take-append-drop (lengthAt file place) (drop place file))
+
+-- .. and so what a walk reads from a place on, as far as the reads suffice
+walk-written : (n : ℕ) (file : List ℕ) (place : ℕ) → ((i : ℕ) → getD file i 0 < 256) → length file ≤ place + n
+    → walkFrom n file place .faulty ≡ false → fileOf (walkFrom n file place .records) ≡ drop place file
+unfolding walkFrom
+walk-written zero file place small h g = sym (drop-of-length-le file {i = place} (omega arith))
+walk-written (suc n) file place small h g =
+    next-written file place small (λ next. walkFrom n file next) (λ next k later. walk-written n file next small (omega (arith, h, k)) later) g
+
+-- K1a: the file that is written of records, each in range, is good, and these records are read of it
+pub file-back : (rs : List Record) → T (allInRange rs) → walk (fileOf rs) ≡ record { records = rs; faulty = false }
+file-back rs h = walk-back rs (suc (length (fileOf rs))) [] h (omega arith)
+
+-- K1b: the records that are read of a good file are written as that file, byte for byte
+pub good-file-back : (file : List ℕ) → ((i : ℕ) → getD file i 0 < 256) → walk file .faulty ≡ false → fileOf (walk file .records) ≡ file
+good-file-back file small g = walk-written (suc (length file)) file 0 small (omega arith) g
