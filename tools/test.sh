@@ -16,7 +16,7 @@ else
 fi
 
 sh tools/statements.sh || fail "docs/STATEMENTS.md names what is not there"
-python3 tools/wrap.py --check || fail "documents not wrapped alike: run python3 tools/wrap.py"
+! command -v python3 >/dev/null 2>&1 || python3 tools/wrap.py --check || fail "documents not wrapped alike: run python3 tools/wrap.py"
 rt fmt --check || fail "not in the layout: run rt fmt"
 
 log=$(mktemp) || exit 1

@@ -1,0 +1,72 @@
+//! How far each file was rewritten, by what `rewrite` prints for it and the lines of its session:
+//! up to the first record that is faulty or answered 1, and byte for byte what the file has there.
+
+use crate::counts::{Counts, Rules, Seen};
+use crate::records::{fault, fields, walk, Record, FACTOR, LOOKED_AT, START};
+
+/// How a file came out, what cut it, and how it meets the bound of what `rewrite` takes of it.
+pub const RULES: &Rules = &[
+    ("file", &["out whole", "cut at a fault", "cut at a field"]),
+    ("fault", &["unknown kind", "wrong length", "cut record", "cut header"]),
+    ("field", &["start", "order", "delete", "auction", "no multiple"]),
+    ("out", &["nothing of some", "one record", "more records"]),
+    ("in", &["up to the bound", "cut between records", "cut in a record", "cut by one byte"]),
+];
+
+/// Counts how far a file came out. Where the output is not those records, nothing else is counted.
+pub fn count(counts: &mut Counts, seen: &Seen) {
+    let file = seen.file.get(..LOOKED_AT).unwrap_or(seen.file);
+    let (records, rest) = walk(file);
+    let lines = String::from_utf8_lossy(&(seen.session)(file)).into_owned();
+    let (written, stop) = stopped(&lines).unwrap_or((records.len(), "end"));
+    let length = records.iter().take(written).map(Record::length).sum();
+    if file.get(..length) != Some(seen.printed) {
+        return counts.add("output", "not the file up to a fault or a field");
+    }
+    match stop {
+        // Without a fault or an answer 1 it has to be the whole file.
+        "end" if seen.printed != file => counts.add("output", "not the whole of a good file"),
+        "end" => counts.add("file", "out whole"),
+        "fault" => {
+            counts.add("file", "cut at a fault");
+            counts.add("fault", fault(rest).unwrap_or("none"));
+        }
+        word => {
+            counts.add("file", "cut at a field");
+            counts.add("field", word);
+            if records.get(written).is_some_and(no_multiple) {
+                counts.add("field", "no multiple");
+            }
+        }
+    }
+    match written {
+        0 if file.is_empty() => {}
+        0 => counts.add("out", "nothing of some"),
+        1 => counts.add("out", "one record"),
+        _ => counts.add("out", "more records"),
+    }
+    let bound = match seen.file.get(..LOOKED_AT + 1).map(walk) {
+        None => "up to the bound",
+        Some(_) if rest.is_empty() => "cut between records",
+        Some((_, [])) => "cut by one byte",
+        Some(_) => "cut in a record",
+    };
+    counts.add("in", bound);
+}
+
+/// How many records stand before the first that is faulty or answered 1, and that one's word.
+fn stopped(lines: &str) -> Option<(usize, &str)> {
+    lines.lines().find_map(|line| match line.split(' ').collect::<Vec<_>>()[..] {
+        ["trade", ..] => None,
+        [place, word, "1", ..] => Some((place.parse::<usize>().ok()?.checked_sub(1)?, word)),
+        _ => None,
+    })
+}
+
+/// A start in which nothing else is bad than that the reference price is no multiple of the step.
+fn no_multiple(record: &Record) -> bool {
+    let ([step, reference, factor, ..], kind) = (record.values, record.kind);
+    let good = |(value, field): (&u64, &(usize, u64))| (1..=field.1).contains(value);
+    let others = factor >= FACTOR.0 && record.values.iter().zip(fields(kind)).all(good);
+    kind == START && others && reference % step > 0
+}
