@@ -1,9 +1,11 @@
 #!/bin/sh
-# Runs every session file of samples/ and holds what is printed to its .out, byte by byte; and holds the files to tools/samples.py, which makes
-# them and their README.
+# Runs every session file of samples/ and holds what is printed to its .out, byte by byte; has each rewritten (K1); and holds the files to
+# tools/samples.py, which makes them and their README.
 cd "$(dirname "$0")/.." || exit 1
 program=target/bin/replay
-[ -x "$program" ] || { echo "samples: no program $program: rt check replay builds it"; exit 1; }
+for name in replay rewrite; do
+    [ -x "target/bin/$name" ] || { echo "samples: no program target/bin/$name: rt check $name builds it"; exit 1; }
+done
 # shellcheck source=tools/x86.sh
 . tools/x86.sh
 dir=$(mktemp -d) || exit 1
@@ -21,12 +23,26 @@ held() {
     same "$1" "$2"
 }
 
+# rewritten NAME: a good file comes out as it is (K1), any other one as what stands before its first record that is faulty or out of range.
+rewritten() {
+    x86 target/bin/rewrite <"samples/$1.session" >"$dir/rewritten" 2>/dev/null
+    size=$(wc -c <"$dir/rewritten")
+    whole=$(wc -c <"samples/$1.session")
+    head -c "$size" "samples/$1.session" | cmp -s - "$dir/rewritten" || { echo "samples: $1 is rewritten as other bytes"; return 1; }
+    # of a longer file, rewrite takes the first 65,536 bytes
+    if [ "$whole" -le 65536 ] && ! grep -qE '^[0-9]+ (fault|[a-z]+) 1( |$)' "samples/$1.out" && [ "$size" -ne "$whole" ]; then
+        echo "samples: $1 is not rewritten whole"
+        return 1
+    fi
+}
+
 bad=0
 count=0
 for file in samples/*.session; do
     name=$(basename "$file" .session)
     [ -f "samples/$name.out" ] || { echo "samples: $name has no .out"; bad=1; continue; }
     held "$name" "samples/$name.out" <"$file" || bad=1
+    rewritten "$name" || bad=1
     count=$((count + 1))
 done
 for file in samples/*.out; do
@@ -69,5 +85,5 @@ else
     echo "samples: no python3 on the PATH: refusal_9 is not run, and the files are not made again"
 fi
 
-[ $bad -ne 0 ] || echo "samples: $count files as stored"
+[ $bad -ne 0 ] || echo "samples: $count files as stored, and rewritten"
 exit $bad

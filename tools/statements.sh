@@ -6,7 +6,7 @@ bad=0
 while IFS='|' read -r _ id file names _; do
     id=$(echo "$id" | tr -d ' ')
     file=$(echo "$file" | tr -d ' `')
-    case $id in [A-D][0-9]*) ;; *) continue ;; esac
+    case $id in [A-DK][0-9]*) ;; *) continue ;; esac
     [ "$file" != open ] || continue
     [ -f "$file" ] || { echo "statements: $id: no file $file"; bad=1; continue; }
     for name in $(echo "$names" | tr -d '`' | tr ',' ' '); do

@@ -8,6 +8,13 @@ use std::collections::BTreeMap;
 /// What has to come up, by word.
 pub type Rules = [(&'static str, &'static [&'static str])];
 
+/// A file, what the second program prints for it, and a way to its lines of a session.
+pub struct Seen<'a> {
+    pub file: &'a [u8],
+    pub printed: &'a [u8],
+    pub session: &'a dyn Fn(&[u8]) -> Vec<u8>,
+}
+
 /// Answers by word, outcomes, faults, and the rules of "The price". Refusal 12 cannot come up: the
 /// programs lend every auction a list that is long enough.
 pub const RULES: &Rules = &[
@@ -123,8 +130,8 @@ impl Counts {
     }
 
     /// Counts what came up in a session file, by the lines printed for it.
-    pub fn session(&mut self, file: &[u8], lines: &str) {
-        let (records, rest) = walk(file);
+    pub fn session(&mut self, seen: &Seen) {
+        let (lines, (records, rest)) = (String::from_utf8_lossy(seen.printed), walk(seen.file));
         let (mut records, mut followed) = (records.iter(), Followed::default());
         for line in lines.lines() {
             let words: Vec<&str> = line.split(' ').collect();

@@ -1,7 +1,7 @@
 //! How often each answer of the calls that change nothing came up, by a file and the lines that
 //! `looks` prints for it.
 
-use crate::counts::{Counts, Rules};
+use crate::counts::{Counts, Rules, Seen};
 use crate::records::{fault, walk, AUCTION, LOOKED_AT};
 
 /// Phases, answers, outcomes, how long a queue or a front is, and how a file ends.
@@ -31,8 +31,8 @@ struct Told<'a> {
 }
 
 /// Counts what came up in a file, by the lines printed for it.
-pub fn count(counts: &mut Counts, file: &[u8], lines: &str) {
-    let mut told = Told::default();
+pub fn count(counts: &mut Counts, seen: &Seen) {
+    let (lines, mut told) = (String::from_utf8_lossy(seen.printed), Told::default());
     for line in lines.lines() {
         let words: Vec<&str> = line.split(' ').collect();
         match words[..] {
@@ -58,7 +58,7 @@ pub fn count(counts: &mut Counts, file: &[u8], lines: &str) {
                 counts.add(if large { "front, 2^64 - 1" } else { "front" }, rule);
             }
             ["long", answer, length] => counts.add("long", &format!("{answer} {length}")),
-            ["end", _] => ended(file, counts),
+            ["end", _] => ended(seen.file, counts),
             _ => counts.add("line", line),
         }
     }

@@ -2,92 +2,116 @@
 //!
 //!     compare [--seeds A..B] --engine CMD --second PROGRAM [--keep DIR]
 //!     compare [--seeds A..B] --looks CMD --second PROGRAM [--keep DIR]
+//!     compare [--seeds A..B] --rewrite CMD --second PROGRAM [--keep DIR]
 //!
 //! CMD is a line for sh, and B is not included. Without seeds it is the fixed set, in which every
 //! rule has to come up. The first file on which the two differ is made small and kept in DIR.
 //! With --looks it is the calls that change nothing: CMD and `PROGRAM --looks` print what they
-//! answer while the file runs.
+//! answer while the file runs. With --rewrite it is the writer: CMD and `PROGRAM --rewrite` print
+//! the file's records, written anew.
 
 mod counts;
 mod looks;
 mod records;
+mod rewrite;
 mod shrink;
 mod temper;
 
-use counts::{Counts, Rules};
+use counts::{Counts, Rules, Seen};
+use records::LOOKED_AT;
 use std::ops::Range;
 use std::path::Path;
 use std::process::{exit, ChildStdin, Command, ExitStatus, Stdio};
 use std::sync::atomic::{AtomicBool, AtomicU64, Ordering::SeqCst};
 use std::{env, fs, io, io::Read, io::Write, thread, time::Duration};
 
-/// What is compared: the lines of sessions or of looks.
+/// What is compared: the lines of sessions or of looks, or the bytes of files written anew.
 struct Subject {
     /// What the names of kept files begin with.
     kept: &'static str,
     files: &'static str,
+    printed: &'static str,
     /// The second program's arguments.
     second: &'static [&'static str],
     fixed_set: Range<u64>,
     file: fn(u64) -> (&'static str, Vec<u8>),
-    count: fn(&mut Counts, &[u8], &str),
+    /// Files of these lengths come in two parts.
+    in_parts: Range<usize>,
+    count: fn(&mut Counts, &Seen),
     rules: &'static Rules,
+    /// Says where what the engine prints and what the second program prints part.
+    parting: fn(&[u8], &[u8]),
 }
 
 const SESSIONS: Subject = Subject {
     kept: "seed",
     files: "files",
+    printed: "lines",
     second: &[],
     fixed_set: 0..2521,
     file: temper::session_file,
+    in_parts: 0..0,
     count: Counts::session,
     rules: counts::RULES,
+    parting: parting_line,
 };
 
 /// Seed 0 is left out: its trouble begins far behind what `looks` takes of a file.
 const LOOKS: Subject = Subject {
     kept: "looks",
     files: "looks files",
+    printed: "lines",
     second: &["--looks"],
     fixed_set: 1..361,
     file: temper::looks_file,
+    in_parts: LOOKED_AT - 1_000..LOOKED_AT + 1_001,
     count: looks::count,
     rules: looks::RULES,
+    parting: parting_line,
 };
 
-/// What a pipe holds can be read at once. So that `looks` meets a short read too, a file about as
-/// long as what it takes comes in two parts.
-fn feed(mut stdin: ChildStdin, file: &[u8]) -> io::Result<()> {
-    let (first, second) = file.split_at(file.len() / 2);
+/// Without seed 0 too: what `rewrite` takes of it is like what it takes of other long files.
+const REWRITES: Subject = Subject {
+    kept: "rewrite",
+    files: "files rewritten",
+    printed: "bytes",
+    second: &["--rewrite"],
+    fixed_set: 1..721,
+    file: temper::rewrite_file,
+    in_parts: LOOKED_AT..usize::MAX,
+    count: rewrite::count,
+    rules: rewrite::RULES,
+    parting: parting_byte,
+};
+
+/// What a pipe holds can be read at once. So that `looks` and `rewrite` meet a short read too, a
+/// file at least about as long as what they take comes in two parts.
+fn feed(mut stdin: ChildStdin, file: &[u8], in_parts: bool) -> io::Result<()> {
+    let (first, second) = file.split_at(file.len().min(LOOKED_AT) / 2);
     stdin.write_all(first)?;
-    if file.len().abs_diff(records::LOOKED_AT) <= 1_000 {
+    if in_parts {
         thread::sleep(Duration::from_millis(50));
     }
     stdin.write_all(second)
 }
-
-/// Feeds the file through a pipe, so that the program meets short reads.
-fn run(command: &mut Command, file: &[u8], lines: &mut Vec<u8>) -> io::Result<ExitStatus> {
-    let command = command.stdin(Stdio::piped()).stdout(Stdio::piped()).stderr(Stdio::null());
-    let mut child = command.spawn()?;
-    let (stdin, stdout) = (child.stdin.take(), child.stdout.take());
-    thread::scope(|scope| {
-        // A program that ends the walk early may stop reading: that is no failure.
-        scope.spawn(move || stdin.map(|stdin| feed(stdin, file)));
-        stdout.map_or(Ok(0), |mut stdout| stdout.read_to_end(lines))
-    })?;
-    child.wait()
+/// Says at which line the two part.
+fn parting_line(engine: &[u8], second: &[u8]) {
+    let lines = |printed| String::from_utf8_lossy(printed).split('\n').map(String::from).collect();
+    let (engine, second): (Vec<String>, Vec<String>) = (lines(engine), lines(second));
+    let same = engine.iter().zip(&second).take_while(|(one, other)| one == other).count();
+    let line = |lines: &[String]| lines.get(same).map_or("nothing".into(), String::clone);
+    println!("line {}, engine: {}", same + 1, line(&engine));
+    println!("line {}, second: {}", same + 1, line(&second));
 }
 
-/// What a program prints. One that fails says so in a last line, which no other program has.
-fn printed(name: &str, command: &mut Command, file: &[u8]) -> Vec<u8> {
-    let mut lines = Vec::new();
-    match run(command, file, &mut lines) {
-        Ok(status) if status.success() => {}
-        Ok(status) => lines.extend(format!("{name}: {status}\n").bytes()),
-        Err(error) => lines.extend(format!("{name}: {error}\n").bytes()),
+/// Says at which offset the two part, with the bytes from there.
+fn parting_byte(engine: &[u8], second: &[u8]) {
+    let same = engine.iter().zip(second).take_while(|(one, other)| one == other).count();
+    for (name, printed) in [("engine", engine), ("second", second)] {
+        let bytes: String = printed[same..].iter().take(16).map(|b| format!(" {b:02X}")).collect();
+        let bytes = if bytes.is_empty() { " nothing" } else { &bytes };
+        println!("offset {same}, {name}, of {} bytes:{bytes}", printed.len());
     }
-    lines
 }
 
 struct Programs {
@@ -97,16 +121,42 @@ struct Programs {
 }
 
 impl Programs {
-    /// The engine's lines and the second program's, run side by side.
+    /// Feeds the file through a pipe, so that the program meets short reads.
+    fn fed(&self, command: &mut Command, file: &[u8], out: &mut Vec<u8>) -> io::Result<ExitStatus> {
+        let command = command.stdin(Stdio::piped()).stdout(Stdio::piped()).stderr(Stdio::null());
+        let mut child = command.spawn()?;
+        let (stdin, stdout) = (child.stdin.take(), child.stdout.take());
+        let in_parts = self.subject.in_parts.contains(&file.len());
+        thread::scope(|scope| {
+            // A program that ends the walk early may stop reading: that is no failure.
+            scope.spawn(move || stdin.map(|stdin| feed(stdin, file, in_parts)));
+            stdout.map_or(Ok(0), |mut stdout| stdout.read_to_end(out))
+        })?;
+        child.wait()
+    }
+
+    /// What a program prints. One that fails says so in a last line, which no other program has.
+    fn printed(&self, name: &str, command: &mut Command, file: &[u8]) -> Vec<u8> {
+        let mut printed = Vec::new();
+        match self.fed(command, file, &mut printed) {
+            Ok(status) if status.success() => {}
+            Ok(status) => printed.extend(format!("{name}: {status}\n").bytes()),
+            Err(error) => printed.extend(format!("{name}: {error}\n").bytes()),
+        }
+        printed
+    }
+
+    /// What the second program prints with these arguments.
+    fn second(&self, arguments: &[&str], file: &[u8]) -> Vec<u8> {
+        self.printed("second", Command::new(&self.second).args(arguments), file)
+    }
+
+    /// What the engine prints and what the second program does, run side by side.
     fn run(&self, file: &[u8]) -> [Vec<u8>; 2] {
         thread::scope(|scope| {
-            let second = || {
-                let mut command = Command::new(&self.second);
-                printed("second", command.args(self.subject.second), file)
-            };
-            let second = scope.spawn(second);
+            let second = scope.spawn(|| self.second(self.subject.second, file));
             let engine = format!("exec {}", self.engine);
-            let engine = printed("engine", Command::new("sh").args(["-c", &engine]), file);
+            let engine = self.printed("engine", Command::new("sh").args(["-c", &engine]), file);
             [engine, second.join().expect("the thread ends")]
         })
     }
@@ -128,7 +178,9 @@ impl Programs {
                     found = Some(seed);
                     stop.store(true, SeqCst);
                 }
-                (self.subject.count)(&mut counts, &file, &String::from_utf8_lossy(&second));
+                let session = |file: &[u8]| self.second(&[], file);
+                let seen = Seen { file: &file, printed: &second, session: &session };
+                (self.subject.count)(&mut counts, &seen);
             }
             (counts, found)
         };
@@ -161,13 +213,7 @@ impl Programs {
         fs::write(path.with_extension("engine"), &engine)?;
         fs::write(path.with_extension("second"), &second)?;
         println!("compare: {}: {} bytes of {}", path.display(), small.len(), file.len());
-        let lines =
-            |printed| String::from_utf8_lossy(printed).split('\n').map(String::from).collect();
-        let (engine, second): (Vec<String>, Vec<String>) = (lines(&engine), lines(&second));
-        let same = engine.iter().zip(&second).take_while(|(one, other)| one == other).count();
-        let line = |lines: &[String]| lines.get(same).map_or("nothing".into(), String::clone);
-        println!("line {}, engine: {}", same + 1, line(&engine));
-        println!("line {}, second: {}", same + 1, line(&second));
+        (self.subject.parting)(&engine, &second);
         Ok(())
     }
 }
@@ -192,13 +238,14 @@ fn main() {
             }
             "--engine" => (programs.subject, programs.engine) = (SESSIONS, value),
             "--looks" => (programs.subject, programs.engine) = (LOOKS, value),
+            "--rewrite" => (programs.subject, programs.engine) = (REWRITES, value),
             "--second" => programs.second = value,
             "--keep" => dir = value,
             _ => quit(&format!("no option {word}")),
         }
     }
     if programs.engine.is_empty() || programs.second.is_empty() {
-        quit("which programs? --engine CMD or --looks CMD, and --second PROGRAM");
+        quit("which programs? --engine, --looks or --rewrite CMD, and --second PROGRAM");
     }
 
     let fixed = given.is_none();
@@ -212,7 +259,8 @@ fn main() {
     never.retain(|_| fixed);
     never.iter().for_each(|rule| println!("compare: never came up: {rule}"));
     strange.iter().for_each(|rule| println!("compare: from both, and not in 01: {rule}"));
-    let (count, files) = (seeds.end.saturating_sub(seeds.start), programs.subject.files);
-    println!("compare: {count} {files}, the same lines from both");
+    let Subject { files, printed, .. } = programs.subject;
+    let count = seeds.end.saturating_sub(seeds.start);
+    println!("compare: {count} {files}, the same {printed} from both");
     exit(i32::from(!never.is_empty() || !strange.is_empty()))
 }

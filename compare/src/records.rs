@@ -10,7 +10,7 @@ pub const VALUE_MAX: u64 = 1_000_000_000_000_000;
 pub const NUMBER_MAX: u64 = 1_000_000;
 pub const MEMBER_MAX: u64 = 65_535;
 pub const PLACES: u64 = 512;
-/// What `looks` takes of its input for the whole file.
+/// What `looks` and `rewrite` take of their input for the whole file.
 pub const LOOKED_AT: usize = 65_536;
 
 // Kinds of records, and what stands for a side, a validity, no limit and an auction.
@@ -53,6 +53,10 @@ pub struct Record {
 }
 
 impl Record {
+    pub fn length(&self) -> usize {
+        length(self.kind)
+    }
+
     /// A value that its field has no room for loses its high bytes.
     pub fn pack(&self, file: &mut Vec<u8>) {
         file.extend((length(self.kind) as u16).to_le_bytes());

@@ -14,9 +14,6 @@
 
 use super::*;
 
-/// The first so many bytes of the input are taken for the whole file.
-pub const LONGEST: u64 = 65_536;
-
 const ARGUMENTS: [u64; 4] = [0, 1, 2, 3];
 
 pub fn looks(file: &[u8]) -> String {

@@ -1,9 +1,10 @@
 //! Reads a session file on standard input and prints what happened, by the rules of 01:
 //!
-//!     second [--looks]
+//!     second [--looks | --rewrite]
 //!
-//! With --looks it prints what the calls that change nothing answer meanwhile, see looks.rs.
-//! Comments cite the sections of 01. Every number is a u64: the largest products are near
+//! With --looks it prints what the calls that change nothing answer meanwhile, see looks.rs; with
+//! --rewrite the file's records, written anew, see rewrite.rs.
+//! Comments cite the sections of 01, and the requests of 02 by K and number. Every number is a u64: the largest products are near
 //! 10^15 and the largest sum is that of 512 quantities, so nothing overflows. The entries of
 //! a filled front are the exception: they are summed as u128.
 
@@ -12,6 +13,7 @@ use std::io::{self, Read, Write};
 use std::ops::RangeInclusive;
 
 mod looks;
+mod rewrite;
 #[cfg(test)]
 mod tests;
 
@@ -116,13 +118,42 @@ fn side_of(side: u64) -> Result<Side, Refusal> {
     }
 }
 
-/// The auction that a field or an argument names.
+/// The auction that a field or an argument names: check 1 of an auction.
 fn auction_of(auction: u64) -> Result<Auction, Refusal> {
     match auction {
         1 => Ok(Auction::Opening),
         2 => Ok(Auction::Closing),
         _ => Err(1),
     }
+}
+
+/// Check 1 of a start: the fields that are in range, "Numbers and their bounds".
+fn check_start(fields: [u64; 5]) -> Result<(), Refusal> {
+    let [step, reference, factor, threshold, maximum] = fields;
+    refuse(1, !STEP.contains(&step))?;
+    refuse(1, !PRICE.contains(&reference) || !reference.is_multiple_of(step))?;
+    refuse(1, !FACTOR.contains(&factor))?;
+    refuse(1, !THRESHOLD.contains(&threshold))?;
+    refuse(1, !MAXIMUM_VALUE.contains(&maximum))
+}
+
+/// Check 1 of an order. Answers the side and the limit that the fields stand for.
+fn check_order(fields: [u64; 5]) -> Result<(Side, Limit), Refusal> {
+    let [member, side, validity, quantity, limit] = fields;
+    refuse(1, !MEMBER.contains(&member))?;
+    let side = side_of(side)?;
+    refuse(1, !VALIDITY.contains(&validity))?;
+    refuse(1, !QUANTITY.contains(&quantity))?;
+    // "Session file", kind 2: limit 0 means unlimited.
+    refuse(1, limit != 0 && !PRICE.contains(&limit))?;
+    let limit = if limit == 0 { Limit::Unlimited } else { Limit::Price(limit) };
+    Ok((side, limit))
+}
+
+/// Check 1 of a delete.
+fn check_delete([number, member]: [u64; 2]) -> Result<(), Refusal> {
+    refuse(1, !ORDER_NUMBER.contains(&number))?;
+    refuse(1, !MEMBER.contains(&member))
 }
 
 struct Session {
@@ -154,30 +185,18 @@ impl Session {
 
     /// "Order of checks", start: 1, 3.
     fn start(&mut self, fields: [u64; 5]) -> Result<(), Refusal> {
-        let [step, reference, factor, threshold, maximum] = fields;
-        refuse(1, !STEP.contains(&step))?;
-        refuse(1, !PRICE.contains(&reference) || !reference.is_multiple_of(step))?;
-        refuse(1, !FACTOR.contains(&factor))?;
-        refuse(1, !THRESHOLD.contains(&threshold))?;
-        refuse(1, !MAXIMUM_VALUE.contains(&maximum))?;
+        check_start(fields)?;
         refuse(3, self.phase != Phase::Fresh)?;
         // "Phases": start leads to pre-opening.
         self.phase = Phase::PreOpening;
-        (self.step, self.reference) = (step, reference);
-        (self.factor, self.threshold, self.maximum) = (factor, threshold, maximum);
+        [self.step, self.reference, self.factor, self.threshold, self.maximum] = fields;
         Ok(())
     }
 
     /// "Order of checks", order: 1, 2, 4, 5, 6, 7, 8, 9, 10. Answers the number given.
     fn order(&mut self, fields: [u64; 5]) -> Result<u64, Refusal> {
-        let [member, side, validity, quantity, limit] = fields;
-        refuse(1, !MEMBER.contains(&member))?;
-        let side = side_of(side)?;
-        refuse(1, !VALIDITY.contains(&validity))?;
-        refuse(1, !QUANTITY.contains(&quantity))?;
-        // "Session file", kind 2: limit 0 means unlimited.
-        refuse(1, limit != 0 && !PRICE.contains(&limit))?;
-        let limit = if limit == 0 { Limit::Unlimited } else { Limit::Price(limit) };
+        let (side, limit) = check_order(fields)?;
+        let [member, _, validity, quantity, _] = fields;
         refuse(2, self.phase == Phase::Fresh)?;
         // Phase rules: orders are refused when closed; validity 1 only in pre-opening.
         refuse(4, self.phase == Phase::Closed)?;
@@ -201,8 +220,7 @@ impl Session {
 
     /// "Order of checks", delete: 1, 2, 11. Allowed in every started phase.
     fn delete(&mut self, [number, member]: [u64; 2]) -> Result<(), Refusal> {
-        refuse(1, !ORDER_NUMBER.contains(&number))?;
-        refuse(1, !MEMBER.contains(&member))?;
+        check_delete([number, member])?;
         refuse(2, self.phase == Phase::Fresh)?;
         let wanted = |order: Order| order.number == number && order.member == member;
         let place = self.book.iter_mut().find(|place| place.is_some_and(wanted)).ok_or(11u64)?;
@@ -465,6 +483,12 @@ fn fields<const N: usize>(mut part: &[u8], sizes: [usize; N]) -> Option<[u64; N]
     Some(fields)
 }
 
+// "Session file": the sizes of each kind's fields.
+const START_SIZES: [usize; 5] = [4, 4, 2, 2, 8];
+const ORDER_SIZES: [usize; 5] = [2, 1, 1, 4, 4];
+const DELETE_SIZES: [usize; 2] = [4, 2];
+const AUCTION_SIZES: [usize; 1] = [1];
+
 /// "Session file": a record with its fields, by its kind.
 enum Record {
     Start([u64; 5]),
@@ -480,10 +504,10 @@ fn first_record(file: &[u8]) -> Option<(Record, &[u8])> {
     // Fields are read from the part that starts at the record's fifth byte.
     let part = file.get(4..length)?;
     let record = match (kind, length) {
-        (1, 24) => Record::Start(fields(part, [4, 4, 2, 2, 8])?),
-        (2, 16) => Record::Order(fields(part, [2, 1, 1, 4, 4])?),
-        (3, 10) => Record::Delete(fields(part, [4, 2])?),
-        (4, 5) => Record::Auction(fields(part, [1])?),
+        (1, 24) => Record::Start(fields(part, START_SIZES)?),
+        (2, 16) => Record::Order(fields(part, ORDER_SIZES)?),
+        (3, 10) => Record::Delete(fields(part, DELETE_SIZES)?),
+        (4, 5) => Record::Auction(fields(part, AUCTION_SIZES)?),
         _ => return None,
     };
     Some((record, file.get(length..)?))
@@ -541,18 +565,25 @@ fn run(file: &[u8]) -> String {
     lines + &format!("end {answered}\n")
 }
 
+/// With an option the first so many bytes of the input are taken for the whole file.
+const LONGEST: u64 = 65_536;
+
 fn main() -> io::Result<()> {
     let (mut file, word) = (Vec::new(), std::env::args().nth(1));
-    let lines = match word.as_deref() {
+    let printed = match word.as_deref() {
         None => {
             io::stdin().read_to_end(&mut file)?;
-            run(&file)
+            run(&file).into_bytes()
         }
         Some("--looks") => {
-            io::stdin().take(looks::LONGEST).read_to_end(&mut file)?;
-            looks::looks(&file)
+            io::stdin().take(LONGEST).read_to_end(&mut file)?;
+            looks::looks(&file).into_bytes()
+        }
+        Some("--rewrite") => {
+            io::stdin().take(LONGEST).read_to_end(&mut file)?;
+            rewrite::rewrite(&file)
         }
         Some(word) => return Err(io::Error::other(format!("no option {word}"))),
     };
-    io::stdout().write_all(lines.as_bytes())
+    io::stdout().write_all(&printed)
 }

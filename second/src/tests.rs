@@ -1,6 +1,7 @@
 //! Session files built in memory; the expected lines are worked out by hand from 01.
 
 use super::looks::looks;
+use super::rewrite::{rewrite, write};
 use super::*;
 
 const BUY: u8 = 1;
@@ -856,4 +857,114 @@ fn looks_at_a_book() {
     ];
     // The auction of byte 0 changes nothing.
     assert_eq!(looks(&records.concat()), format!("look 6\n{BOOK}look 7\n{BOOK}end 6\n"));
+}
+
+/// The worked start record's bytes, from its fields alone.
+#[test]
+fn write_the_worked_start() {
+    let mut written = Vec::new();
+    let record = Record::Start([100, 100_000, 9, 150, 1_000_000_000_000]);
+    assert_eq!(write(&record, &mut written), Ok(()));
+    let bytes: [u8; 24] = [
+        0x18, 0x00, 0x01, 0x00, 0x64, 0x00, 0x00, 0x00, 0xA0, 0x86, 0x01, 0x00, 0x09, 0x00, 0x96,
+        0x00, 0x00, 0x10, 0xA5, 0xD4, 0xE8, 0x00, 0x00, 0x00,
+    ];
+    assert_eq!(written, bytes);
+    // Behind what is there; and each whole or not at all.
+    assert_eq!(write(&Record::Auction([2]), &mut written), Ok(()));
+    assert_eq!(write(&Record::Auction([3]), &mut written), Err(1));
+    assert_eq!(write(&Record::Delete([1, 0]), &mut written), Err(1));
+    assert_eq!(written, [&bytes[..], &[5, 0, 4, 0, 2]].concat());
+}
+
+/// Good records of all four kinds, each field with its ends and with bytes that all differ.
+fn good_records() -> Vec<Vec<u8>> {
+    vec![
+        start(),
+        order_of(0x0201, BUY, 3, 0x0076_5432, 0x0432_1076),
+        order_of(1, BUY, 1, 1, UNLIMITED),
+        order_of(65_535, SELL, 4, 10_000_000, 100_000_000),
+        delete(0x000A_0B0C, 0x0D0E),
+        delete(1, 65_535),
+        delete(1_000_000, 1),
+        auction(OPENING),
+        auction(CLOSING),
+        // Good though its call would be refused by 3.
+        start_with(1_000_000, 100_000_000, 999, 9_999, 1_000_000_000_000_000),
+        start_with(1, 1, 2, 1, 1),
+        start_with(0x0001_0203, 0x0001_0203, 0x0102, 0x0304, 0x0001_0203_0405_0607),
+    ]
+}
+
+#[test]
+fn rewrite_a_good_file() {
+    assert_eq!(rewrite(&[]), []);
+    let file = good_records().concat();
+    assert_eq!(rewrite(&file), file);
+    for record in good_records() {
+        assert_eq!(rewrite(&record), record);
+    }
+}
+
+#[test]
+fn rewrite_up_to_a_bad_field() {
+    let good = 1_000_000_000_000_000;
+    for bad in [
+        start_with(0, 100_000, 9, 150, good),
+        start_with(1_000_001, 2_000_002, 9, 150, good),
+        start_with(100, 0, 9, 150, good),
+        start_with(1, 100_000_001, 9, 150, good),
+        // The reference price is no multiple of the step.
+        start_with(100, 100_050, 9, 150, good),
+        start_with(200, 100, 9, 150, good),
+        start_with(100, 100_000, 1, 150, good),
+        start_with(100, 100_000, 1_000, 150, good),
+        start_with(100, 100_000, 9, 0, good),
+        start_with(100, 100_000, 9, 10_000, good),
+        start_with(100, 100_000, 9, 150, 0),
+        start_with(100, 100_000, 9, 150, good + 1),
+        order_of(0, BUY, 3, 1, 100),
+        order_of(7, 0, 3, 1, 100),
+        order_of(7, 3, 3, 1, 100),
+        order_of(7, BUY, 0, 1, 100),
+        order_of(7, BUY, 5, 1, 100),
+        order_of(7, BUY, 3, 0, 100),
+        order_of(7, BUY, 3, 10_000_001, 100),
+        order_of(7, BUY, 3, 1, 100_000_001),
+        delete(0, 7),
+        delete(1_000_001, 7),
+        delete(7, 0),
+        auction(0),
+        auction(3),
+    ] {
+        // It is the third record, and the call on it answers 1.
+        let file = [start(), day(BUY, 1, UNLIMITED), bad, auction(OPENING)];
+        assert_eq!(rewrite(&file.concat()), file[..2].concat());
+        let lines = run(&file.concat());
+        assert_eq!(lines.lines().nth(2).and_then(|line| line.split(' ').nth(2)), Some("1"));
+        assert_eq!(rewrite(&file[2..].concat()), []);
+    }
+}
+
+#[test]
+fn rewrite_up_to_a_fault() {
+    let (before, behind) = (good_records().concat(), auction(OPENING));
+    for bad in [
+        record(0, &[]),
+        record(5, &[&[1]]),
+        record(3, &[]),
+        record(4, &[&[1, 1]]),
+        vec![0, 0, 1, 0],
+        vec![24, 0, 2, 0],
+        vec![255, 255, 9, 0],
+    ] {
+        assert_eq!(rewrite(&[&before[..], &bad, &behind].concat()), before);
+        assert_eq!(rewrite(&bad), []);
+    }
+    // Cut records: whole or not at all.
+    for record in good_records() {
+        for cut in 1..record.len() {
+            assert_eq!(rewrite(&[&before[..], &record[..cut]].concat()), before);
+        }
+    }
 }

@@ -56,7 +56,7 @@ pub record ExactlyWhen (answer : ℕ) (checks : List Check) : Type 0 where
   pub done : (answer ≡ 0) ↔ NoneHit checks
   pub refused : (k : ℕ) → 0 < k → (answer ≡ k) ↔ (T (ruleOf k checks) × NoneHit (earlier k checks))
 
-exactly : (checks : List Check) → T (wellNumbered checks) → (answer : ℕ) → answer ≡ firstHit checks → ExactlyWhen answer checks
+pub exactly : (checks : List Check) → T (wellNumbered checks) → (answer : ℕ) → answer ≡ firstHit checks → ExactlyWhen answer checks
 exactly checks w answer e = rw e (record { done = none-hit checks w; refused = given-exactly-when checks w })
 
 -- each call's answer is the first hit of its checks

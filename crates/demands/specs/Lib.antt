@@ -14,3 +14,4 @@ pub mod Auctioned
 pub mod EveryRun
 pub mod FilledFronts
 pub mod Files
+pub mod Writing

@@ -1,12 +1,14 @@
 // The session file: its records and what stands at a place of it (01 "Session file").
 mod kinds;
 mod numbers;
+mod ranges;
 mod reader;
 mod walk;
 
 pub use kinds::Deletion;
 pub use kinds::Kind;
 pub use kinds::Record;
+pub use ranges::in_range;
 pub use reader::Reader;
 pub use reader::read_at;
 

@@ -67,3 +67,7 @@ rankedRows phase side which size = check 1 (not (isSide side && isAuction which)
 -- Filled front: 1, where either list is longer than the book, or for another side; by the lengths of the lists.
 abbrev pub frontRows : ℕ → ℕ → ℕ → List Check
 frontRows buys sells side = check 1 (not (isSide side) || ltb places buys || ltb places sells) ∷ []
+
+-- Writing a record: 1, 12; by whether every field is in range, the length of the lent buffer and the place behind the record.
+abbrev pub writeRows : Bool → ℕ → ℕ → List Check
+writeRows good size end = check 1 (not good) ∷ check 12 (ltb size end) ∷ []

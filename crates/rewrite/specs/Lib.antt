@@ -1,0 +1,2 @@
+-- A session file read and written again: K1.
+pub mod Rewriting
