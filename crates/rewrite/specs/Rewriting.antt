@@ -5,14 +5,18 @@ use mathlib.Core.Logic.{_≢_}
 use mathlib.Core.Path.{_≡_, refl, sym, _∙_, ap}
 use mathlib.Core.List.{List}
 use native.Mathlib.Omega.{arith}
-use lib.ListN.{length}
+use lib.Dec.{T}
+use lib.ListN.{length, take, drop, getD}
+use lib.Seq.{take-at}
+use Rattle.lists.specs.Put.{put}
 use Rattle.records.specs.declared.{kinds.Record.Record, Piece.Piece}
+use Rattle.records.specs.Bytes.{allInRange}
 use Rattle.records.specs.Walk.{Read, recordAt, Walk, ended, after, walkFrom, walk}
 use Rattle.records.specs.Pieces.{pieceOf, pieceAt}
 use Rattle.records.specs.Ends.{next-place, reads-suffice}
 use Rattle.writer.specs.declared.{Written.Written}
 use Rattle.writer.specs.Writing.{WriteLeaves, writeLeaves, written, writtenAll}
-use Rattle.writer.specs.InARow.{written-within, all-go-on, all-stop}
+use Rattle.writer.specs.InARow.{good-file-written, written-within, all-go-on, all-stop}
 use Rattle.rewrite.specs.declared.{copy.Ending.Ending}
 
 -- what a file's records leave of the buffer, written from its front on; and whether the file is faulty, where none of them was refused
@@ -110,3 +114,15 @@ module _ (file old new : List ℕ) (place end : ℕ) (going : Going file old new
   pub ended-at : (n : ℕ) {p : Piece} → readFrom p ≡ Read.End → p ≡ pieceAt file place true
       → Rewrites file old (allWritten end n false) new
   ended-at n q e = over n false (walk-end file place (piece-read file place e ∙ q))
+
+-- K1b of the program: a good file that the buffer holds comes out as it is, byte for byte
+pub good-file-rewritten : (file old new : List ℕ) (r : Ending) → Rewrites file old r new → ((i : ℕ) → getD file i 0 < 256) → walk file .faulty ≡ false
+    → T (allInRange (walk file .records)) → length file ≤ length old → (r .written .answer ≡ 0) × (r .faulty ≡ false) × (take (r .written .place) new ≡ file)
+unfolding put
+good-file-rewritten file old new r rewrites bytes good ranged room =
+    let e = rewrites .wrote ∙ good-file-written file bytes good ranged old room in
+    let done : r .written .answer ≡ 0 = ap (λ (l : WriteLeaves). l .returned .answer) e in (
+      done,
+      rewrites .tells done ∙ good,
+      ap (λ (l : WriteLeaves). take (l .returned .place) (l .buffer)) e ∙ take-at file (drop (0 + length file) old) (length file) refl,
+    )
