@@ -11,6 +11,7 @@ use Rattle.terms.specs.Bounds.{minQuantity, maxQuantity}
 use Rattle.terms.specs.Orders.{Resting, withOpen}
 use Rattle.terms.specs.declared.orders.{Auction.Auction, Auction.the-variants.Opening, Auction.the-variants.Closing, Validity.Validity, Validity.the-variants.AtOpening, Validity.the-variants.AtClose, Validity.the-variants.Day, Validity.the-variants.LaterDay}
 use Rattle.book.specs.Sound.{SoundOrder}
+use Rattle.book.specs.Changed.{Keeps}
 use Rattle.trades.specs.declared.{Trade.Trade}
 use Rattle.trades.specs.Trades.{traded}
 
@@ -37,10 +38,10 @@ leaves a o = eqb (o .left) 0 || ends a (o .validity)
 unfoldable pub restOf : Auction → List Trade → Resting → Option Resting
 restOf a trades o = cond (leaves a (remaining trades o)) none (some (remaining trades o))
 
--- What rests of a sound order is sound, under the same number.
+-- What rests of a sound order is sound, and the order that it was.
 module _ (legal : ℕ → Bool) (given : ℕ) (a : Auction) (trades : List Trade) where
   -- what remains is above 0 and no more than before
-  pub rest-keeps : (o o' : Resting) → SoundOrder legal given o → restOf a trades o ≡ some o' → SoundOrder legal given o' × (o' .number ≡ o .number)
+  pub rest-keeps : (o o' : Resting) → SoundOrder legal given o → restOf a trades o ≡ some o' → SoundOrder legal given o' × Keeps o' o
   unfolding restOf
   rest-keeps o o' sound = go (eqb (remaining trades o .left) 0) refl (ends a (o .validity))
     where
@@ -57,9 +58,9 @@ module _ (legal : ℕ → Bool) (given : ℕ) (a : Auction) (trades : List Trade
         limit-legal = sound .limit-legal;
       }
 
-      go : (s : Bool) → eqb (remaining trades o .left) 0 ≡ s → (t : Bool) → cond (s || t) none (some (remaining trades o)) ≡ some o' → SoundOrder legal given o' × (o' .number ≡ o .number)
+      go : (s : Bool) → eqb (remaining trades o .left) 0 ≡ s → (t : Bool) → cond (s || t) none (some (remaining trades o)) ≡ some o' → SoundOrder legal given o' × Keeps o' o
       go true e t f = absurd (Option·none-ne-some o' f)
       go false e true f = absurd (Option·none-ne-some o' f)
       go false e false f =
           let i = Option·some-injective (remaining trades o) o' f in
-          (subst (SoundOrder legal given) i (good e), ap (λ (x : Resting). x .number) (sym i))
+          (subst (SoundOrder legal given) i (good e), subst (λ (x : Resting). Keeps x o) i (record { number = refl; member = refl; side = refl; quoted = refl }))

@@ -9,7 +9,8 @@ use Rattle.lists.specs.Tests.{and-both}
 use Rattle.lists.specs.Sums.{_∈_, counted, sum-less, sum-map, sum-same}
 use Rattle.terms.specs.Orders.{Resting}
 use Rattle.terms.specs.declared.orders.{Side.Side, Side.the-variants.Buy, Side.the-variants.Sell}
-use Rattle.queue.specs.Sides.{allows, sameSide-eq}
+use Rattle.terms.specs.Sides.{sameSide-eq}
+use Rattle.queue.specs.Sides.{allows}
 use Rattle.queue.specs.Distinct.{Distinct}
 use Rattle.queue.specs.Rank.{onSide}
 use Rattle.price.specs.Interest.{accepts, interest, executable}

@@ -11,7 +11,8 @@ use Rattle.lists.specs.Sums.{_∈_, counted, counted-pass, sum, sum-each, sum-m
 use Rattle.lists.specs.Choice.{highest-at}
 use Rattle.terms.specs.Orders.{Resting, isLegal}
 use Rattle.terms.specs.declared.orders.{Side.Side, Side.the-variants.Buy, Side.the-variants.Sell, Limit.Limit, Limit.the-variants.Unlimited, Limit.the-variants.At}
-use Rattle.queue.specs.Sides.{isUnlimited, sameSide-eq, sameSide-refl}
+use Rattle.terms.specs.Sides.{sameSide-eq, sameSide-refl}
+use Rattle.queue.specs.Sides.{isUnlimited}
 use Rattle.queue.specs.Distinct.{Distinct, distinct-sum}
 use Rattle.queue.specs.Rank.{onSide, betterLimit, ahead-limit, ranked, ranked-in-order}
 use Rattle.fills.specs.Fill.{FrontPart, ranked-front}

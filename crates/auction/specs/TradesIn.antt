@@ -13,6 +13,7 @@ use Rattle.lists.specs.Sums.{_∈_, counted, sum-none}
 use Rattle.terms.specs.Bounds.{places}
 use Rattle.terms.specs.Orders.{Resting}
 use Rattle.terms.specs.declared.orders.{Side.Side, Side.the-variants.Buy, Side.the-variants.Sell, Auction.Auction}
+use Rattle.terms.specs.Sides.{sameSide-eq}
 use Rattle.book.specs.declared.Book.{Book}
 use Rattle.places.specs.Places.{isTaken}
 use Rattle.book.specs.Columns.{valuesAt, orderAt}
@@ -21,7 +22,6 @@ use Rattle.book.specs.ByPlace.{resting-elim}
 use Rattle.book.specs.Sound.{SoundBook}
 use Rattle.book.specs.Settling.{settled, restFrom, settled-changed}
 use Rattle.queue.specs.Part.{takingPart, takingPart-elim, takingPart-distinct}
-use Rattle.queue.specs.Sides.{sameSide-eq}
 use Rattle.queue.specs.Distinct.{Distinct}
 use Rattle.queue.specs.Rank.{ranked, ranked-elim}
 use Rattle.queue.specs.RankNumbers.{numberRoom, placeOfRank, along}

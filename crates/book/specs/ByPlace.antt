@@ -15,7 +15,7 @@ use Rattle.terms.specs.Orders.{Resting}
 use Rattle.book.specs.declared.Book.{Book}
 use Rattle.places.specs.Places.{isTaken}
 use Rattle.book.specs.Columns.{orderAt}
-use Rattle.book.specs.Resting.{restingAt, restingTo, resting, firstOr, findFrom, placeOf}
+use Rattle.book.specs.Resting.{restingAt, restingTo, resting, firstOr, firstOf, restsAs, placeOf}
 
 -- the order stands at one of the first n places
 pub record StandsAt (b : Book) (n : ℕ) (o : Resting) : Type 0 where
@@ -66,12 +66,12 @@ record Found (f : Resting → Bool) (b : Book) (place n r : ℕ) : Type 0 where
   hit : r < place + n → T (isTaken (b .taken) r && f (orderAt b r))
   missed : (p : ℕ) → place ≤ p → p < r → T (isTaken (b .taken) p && f (orderAt b p)) → ⊥
 
-found : (f : Resting → Bool) (b : Book) (place n : ℕ) → Found f b place n (findFrom f b place n)
-unfolding findFrom
+found : (f : Resting → Bool) (b : Book) (place n : ℕ) → Found f b place n (firstOf (restsAs f b) place n)
+unfolding firstOf
 found f b place zero = record { from = omega arith; most = omega arith; hit = λ h. absurd (omega arith); missed = λ p h k t. omega arith }
 found f b place (suc n) = go (isTaken (b .taken) place && f (orderAt b place)) refl (found f b (suc place) n)
   where
-    go : (t : Bool) → (isTaken (b .taken) place && f (orderAt b place)) ≡ t → Found f b (suc place) n (findFrom f b (suc place) n) → Found f b place (suc n) (firstOr t place (findFrom f b (suc place) n))
+    go : (t : Bool) → (isTaken (b .taken) place && f (orderAt b place)) ≡ t → Found f b (suc place) n (firstOf (restsAs f b) (suc place) n) → Found f b place (suc n) (firstOr t place (firstOf (restsAs f b) (suc place) n))
     go true e later = record { from = omega arith; most = omega arith; hit = λ h. rw e tt; missed = λ p h k t. omega arith }
     go false e later = record {
       from = omega (arith, later .from);

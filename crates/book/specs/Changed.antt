@@ -14,7 +14,7 @@ use Rattle.book.specs.Columns.{valuesAt, valuesOf, orderFrom, orderAt, e
 use Rattle.book.specs.Writing.{Sized, SameAt, stored-taken, stored-raw, stored-order, stored-elsewhere, stored-sized, cleared-free, cleared-raw, cleared-elsewhere, cleared-sized}
 use Rattle.book.specs.Resting.{resting, putBack, changedAt, changedTo, changed}
 use Rattle.book.specs.ByPlace.{resting-elim, resting-intro}
-use Rattle.book.specs.Sound.{SoundOrder, SoundBook, same-or-not, changed-sound, cleared-sound}
+use Rattle.book.specs.Sound.{SoundOrder, SoundBook, SameQuote, same-or-not, changed-sound, cleared-sound}
 
 -- what stands at a place afterwards
 pub record AfterAt (change : Resting → Option Resting) (b c : Book) (p : ℕ) : Type 0 where
@@ -72,9 +72,16 @@ module _ (change : Resting → Option Resting) where
     left = λ o e f. let (t, r) = after .left o e f in (taken ∙ t, ap orderFrom raw ∙ r);
   }
 
--- What is left of a sound order is sound, under the same number.
+-- what an order keeps while it rests
+pub record Keeps (o' o : Resting) : Type 0 where
+  pub number : o' .number ≡ o .number
+  pub member : o' .member ≡ o .member
+  pub side : o' .side ≡ o .side
+  pub quoted : o' .quoted ≡ o .quoted
+
+-- What is left of a sound order is sound, under the same number, of the same member, side and quote.
 module _ (legal : ℕ → Bool) (given : ℕ) (change : Resting → Option Resting)
-    (keeps : (o o' : Resting) → SoundOrder legal given o → change o ≡ some o' → SoundOrder legal given o' × (o' .number ≡ o .number)) where
+    (keeps : (o o' : Resting) → SoundOrder legal given o → change o ≡ some o' → SoundOrder legal given o' × Keeps o' o) where
   -- .. one place
   module _ (b : Book) (sound : SoundBook legal given b) (place : ℕ) (here : place < places) where
     left-order : (o : Resting) → isTaken (b .taken) place ≡ true → change (orderAt b place) ≡ some o → orderAt (stored b place o) place ≡ o
@@ -92,7 +99,9 @@ module _ (legal : ℕ → Bool) (given : ℕ) (change : Resting → Option Resti
           coded = λ g. ap valuesOf back ∙ sym (stored-raw b (sound .sized) place here o);
           rests = λ g. rw back good;
         })
-        (λ p n h g k i. n (sound .once p place h here g e (i ∙ ap (λ (x : Resting). x .number) back ∙ same)))
+        (λ p n h g k i. n (sound .once p place h here g e (i ∙ ap (λ (x : Resting). x .number) back ∙ same .number)))
+        (λ p n h g k i. let j : SameQuote (orderAt b p) o = subst (λ (x : Resting). SameQuote (orderAt b p) x) back i in
+        n (sound .one-quote p place h here g e (record { first = j .first; second = sym (same .quoted) ∙ j .second; member = j .member ∙ same .member; side = j .side ∙ same .side })))
 
     step-sound : SoundBook legal given (changedAt change b place)
     step-sound = changed-cases change (SoundBook legal given) b place (λ e. sound) (λ e f. cleared-sound legal given b sound place here) left-sound

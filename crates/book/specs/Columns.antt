@@ -1,6 +1,8 @@
 -- Columns: how an order stands at a place, and what storing and clearing change.
 use Prim.Native.Nat.{ℕ}
+use mathlib.Core.Bool.{Bool, true, false}
 use mathlib.Core.List.{List}
+use lib.Dec.{eqb}
 use lib.ListN.{getD, set, replicate}
 use Rattle.terms.specs.Bounds.{places}
 use Rattle.terms.specs.Orders.{Resting, sideNumber, sideFrom, validityNumber, validityFrom, limitNumber, limitFrom}
@@ -16,7 +18,13 @@ valuesAt b place = record {
   validity = getD (b .validity) place 0;
   left = getD (b .left) place 0;
   limit = getD (b .limit) place 0;
+  quoted = getD (b .quoted) place 0;
 }
+
+-- 1 for a side of a quote
+abbrev pub markOf : Bool → ℕ
+markOf true = 1
+markOf false = 0
 
 -- an order as the columns hold it, under the numbers of 01, and back
 abbrev pub valuesOf : Resting → Values
@@ -27,6 +35,7 @@ valuesOf o = record {
   validity = validityNumber (o .validity);
   left = o .left;
   limit = limitNumber (o .limit);
+  quoted = markOf (o .quoted);
 }
 
 abbrev pub orderFrom : Values → Resting
@@ -37,6 +46,7 @@ orderFrom r = record {
   validity = validityFrom (r .validity);
   left = r .left;
   limit = limitFrom (r .limit);
+  quoted = eqb (r .quoted) 1;
 }
 
 -- the order at a place
@@ -45,11 +55,11 @@ orderAt b place = orderFrom (valuesAt b place)
 
 -- .. with another open quantity
 abbrev pub withLeft : Values → ℕ → Values
-withLeft r left = record { number = r .number; member = r .member; side = r .side; validity = r .validity; left = left; limit = r .limit }
+withLeft r left = record { number = r .number; member = r .member; side = r .side; validity = r .validity; left = left; limit = r .limit; quoted = r .quoted }
 
 -- the empty values
 abbrev pub emptyValues : Values
-emptyValues = record { number = 0; member = 0; side = 0; validity = 0; left = 0; limit = 0 }
+emptyValues = record { number = 0; member = 0; side = 0; validity = 0; left = 0; limit = 0; quoted = 0 }
 
 -- every place free, and the empty value 0 in every column
 abbrev pub emptyBook : Book
@@ -61,6 +71,7 @@ emptyBook = record {
   validity = replicate places 0;
   left = replicate places 0;
   limit = replicate places 0;
+  quoted = replicate places 0;
 }
 
 -- the book with other words, and other values at a place
@@ -73,6 +84,7 @@ written b words place r = record {
   validity = set (b .validity) place (r .validity);
   left = set (b .left) place (r .left);
   limit = set (b .limit) place (r .limit);
+  quoted = set (b .quoted) place (r .quoted);
 }
 
 -- the book with an order at a place

@@ -3,7 +3,6 @@ use Prim.Native.Nat.{ℕ, zero, suc, _+_, _-_, _≤_, _<_}
 use mathlib.Core.Bool.{Bool, true, false, _&&_, true≢false}
 use mathlib.Core.Path.{_≡_, refl, sym, ap, _∙_}
 use mathlib.Core.List.{List}
-use native.Mathlib.Nat.{zero-add}
 use native.Mathlib.Omega.{arith}
 use borrow.Author.Tests.{eqb-true, eq-eqb}
 use lib.Dec.{eqb}
@@ -11,8 +10,8 @@ use lib.ListN.{getD}
 use Rattle.terms.specs.Bounds.{places}
 use Rattle.places.specs.Places.{isTaken}
 use Rattle.book.specs.declared.Book.{Book}
-use Rattle.book.specs.Resting.{placeIn, isSought, place-in-hit}
-use Rattle.book.specs.Groups.{place-in-past}
+use Rattle.book.specs.Resting.{placeIn, isSought}
+use Rattle.book.specs.Groups.{first-nowhere, first-is}
 use Rattle.book.specs.Sound.{SoundBook}
 
 -- no number stands at two taken places, and none is above the last one given
@@ -39,25 +38,10 @@ module _ (taken numbers members : List ℕ) (number member : ℕ) where
   abbrev sought : ℕ → Bool
   sought = isSought taken numbers members number member
 
-  -- none of n places from one on is sought
-  place-in-nowhere : (n place : ℕ) → ((p : ℕ) → place ≤ p → p < place + n → sought p ≡ false) → placeIn taken numbers members number member place n ≡ place + n
-  unfolding placeIn
-  place-in-nowhere zero place h = omega arith
-  place-in-nowhere (suc n) place h =
-      let here : sought place ≡ false = h place (omega arith) (omega arith) in
-      let later = place-in-nowhere n (suc place) (λ p k l. h p (omega arith) (omega arith)) in
-      rw here (omega (arith, later))
-
-  -- one is, and none before it
-  place-in-first : (p k : ℕ) → sought p ≡ true → ((q : ℕ) → q < p → sought q ≡ false) → placeIn taken numbers members number member 0 (p + suc k) ≡ p
-  place-in-first p k e f =
-      let none = place-in-nowhere p 0 (λ q h l. f q (omega arith)) in
-      rw zero-add at (place-in-past taken numbers members number member p (suc k) 0 (omega (arith, none))) ∙ place-in-hit taken numbers members number member p k e
-
   module _ (given : ℕ) (known : Numbered taken numbers given) where
     pub place-not-given : given < number → places ≡ placeIn taken numbers members number member 0 places
     place-not-given above =
-        sym (place-in-nowhere places 0 (λ p k l. never (sought p) (λ e.
+        sym (first-nowhere sought places 0 (λ p k l. never (sought p) (λ e.
         let t = both (isTaken taken p) (eqb (getD numbers p 0) number) (eqb (getD members p 0) member) e in
         omega (arith, known .given-already p (omega arith) (t .0), eqb-true (getD numbers p 0) number (t .1)))))
 
@@ -71,12 +55,9 @@ module _ (taken numbers members : List ℕ) (number member : ℕ) where
 
       pub place-of-member : getD members place 0 ≡ member → place ≡ placeIn taken numbers members number member 0 places
       place-of-member e =
-          let all : place + suc (places - place - 1) ≡ places = omega arith in
-          rw all at
-          (sym (place-in-first place (places - place - 1) (rw (is-taken, eq-eqb _ _ same, eq-eqb _ _ e))
-          (λ q l. never (sought q) (λ i. omega (arith, only q (omega arith) i .0)))))
+          sym (first-is sought places place here (rw (is-taken, eq-eqb _ _ same, eq-eqb _ _ e)) (λ q l. never (sought q) (λ i. omega (arith, only q (omega arith) i .0))))
 
       pub place-of-another : (getD members place 0 ≡ member → ⊥) → places ≡ placeIn taken numbers members number member 0 places
       place-of-another n =
-          sym (place-in-nowhere places 0 (λ p k l. never (sought p) (λ i.
+          sym (first-nowhere sought places 0 (λ p k l. never (sought p) (λ i.
           let o = only p (omega arith) i in n (ap (λ (x : ℕ). getD members x 0) (sym (o .0)) ∙ o .1))))

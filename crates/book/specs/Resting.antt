@@ -1,9 +1,10 @@
 -- Resting orders: the list that everything above the book speaks of.
-use Prim.Native.Nat.{ℕ, zero, suc}
+use Prim.Native.Nat.{ℕ, zero, suc, _+_, _≤_, _<_}
 use mathlib.Core.Bool.{Bool, true, false, cond, _&&_}
 use mathlib.Core.Option.{Option, none, some}
 use mathlib.Core.Path.{_≡_, refl}
 use mathlib.Core.List.{List, [], _∷_, _++_}
+use native.Mathlib.Omega.{arith}
 use lib.Dec.{eqb}
 use lib.ListN.{getD}
 use Rattle.terms.specs.Bounds.{places}
@@ -29,14 +30,18 @@ abbrev pub firstOr : Bool → ℕ → ℕ → ℕ
 firstOr true found later = found
 firstOr false found later = later
 
--- the first of n places from one on whose resting order passes the test, or the place behind them
-unfoldable pub findFrom : (Resting → Bool) → Book → ℕ → ℕ → ℕ
-findFrom f b place zero = place
-findFrom f b place (suc n) = firstOr (isTaken (b .taken) place && f (orderAt b place)) place (findFrom f b (suc place) n)
+-- the first of n places from one on that passes the test, or the place behind them
+unfoldable pub firstOf : (ℕ → Bool) → ℕ → ℕ → ℕ
+firstOf test place zero = place
+firstOf test place (suc n) = firstOr (test place) place (firstOf test (suc place) n)
+
+-- a place whose resting order passes the test
+abbrev pub restsAs : (Resting → Bool) → Book → ℕ → Bool
+restsAs f b place = isTaken (b .taken) place && f (orderAt b place)
 
 -- the place of the first resting order that passes the test, or 512
 abbrev pub placeOf : (Resting → Bool) → Book → ℕ
-placeOf f b = findFrom f b 0 places
+placeOf f b = firstOf (restsAs f b) 0 places
 
 -- an order of this number and this member
 abbrev pub isOf : ℕ → ℕ → Resting → Bool
@@ -46,10 +51,8 @@ isOf number member o = eqb (o .number) number && eqb (o .member) member
 abbrev pub isSought : List ℕ → List ℕ → List ℕ → ℕ → ℕ → ℕ → Bool
 isSought taken numbers members number member place = isTaken taken place && (eqb (getD numbers place 0) number && eqb (getD members place 0) member)
 
-unfoldable pub placeIn : List ℕ → List ℕ → List ℕ → ℕ → ℕ → ℕ → ℕ → ℕ
-placeIn taken numbers members number member place zero = place
-placeIn taken numbers members number member place (suc n) =
-    firstOr (isSought taken numbers members number member place) place (placeIn taken numbers members number member (suc place) n)
+abbrev pub placeIn : List ℕ → List ℕ → List ℕ → ℕ → ℕ → ℕ → ℕ → ℕ
+placeIn taken numbers members number member = firstOf (isSought taken numbers members number member)
 
 -- what a place holds after a change: the order that is left there, or nothing
 abbrev pub putBack : Book → ℕ → Option Resting → Book
@@ -68,27 +71,25 @@ abbrev pub changed : (Resting → Option Resting) → Book → Book
 changed change b = changedTo change b places
 
 -- one place on: this one is it, or it is further on, or there are no more
-module _ (taken numbers members : List ℕ) (number member place : ℕ) where
-  pub place-in-hit : (n : ℕ) → isSought taken numbers members number member place ≡ true → placeIn taken numbers members number member place (suc n) ≡ place
-  unfolding placeIn
-  place-in-hit n h = rw h
+module _ (test : ℕ → Bool) (place : ℕ) where
+  pub first-hit : (n : ℕ) → test place ≡ true → firstOf test place (suc n) ≡ place
+  unfolding firstOf
+  first-hit n h = rw h
 
-  pub place-in-miss : (n : ℕ) → isSought taken numbers members number member place ≡ false
-      → placeIn taken numbers members number member place (suc n) ≡ placeIn taken numbers members number member (suc place) n
-  unfolding placeIn
-  place-in-miss n h = rw h
+  pub first-miss : (n : ℕ) → test place ≡ false → firstOf test place (suc n) ≡ firstOf test (suc place) n
+  unfolding firstOf
+  first-miss n h = rw h
 
-  pub place-in-end : placeIn taken numbers members number member place 0 ≡ place
-  unfolding placeIn
-  place-in-end = refl
+  pub first-end : firstOf test place 0 ≡ place
+  unfolding firstOf
+  first-end = refl
+
+-- .. of tests that say the same of those places
+pub first-same : (f g : ℕ → Bool) (n place : ℕ) → ((p : ℕ) → place ≤ p → p < place + n → f p ≡ g p) → firstOf f place n ≡ firstOf g place n
+unfolding firstOf
+first-same f g zero place h = refl
+first-same f g (suc n) place h = rw (h place (omega arith) (omega arith), first-same f g n (suc place) (λ p k l. h p (omega arith) (omega arith)))
 
 -- the columns say what the orders say
-place-in-from : (b : Book) (number member n place : ℕ)
-    → placeIn (b .taken) (b .number) (b .member) number member place n ≡ findFrom (isOf number member) b place n
-unfolding placeIn findFrom
-place-in-from b number member zero place = refl
-place-in-from b number member (suc n) place = rw (place-in-from b number member n (suc place))
-
-pub place-in : (b : Book) (number member : ℕ)
-    → placeIn (b .taken) (b .number) (b .member) number member 0 places ≡ placeOf (isOf number member) b
-place-in b number member = place-in-from b number member places 0
+pub place-in : (b : Book) (number member : ℕ) → placeIn (b .taken) (b .number) (b .member) number member 0 places ≡ placeOf (isOf number member) b
+place-in b number member = refl

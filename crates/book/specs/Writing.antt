@@ -1,11 +1,11 @@
 -- Changes: what writing a place does to it, and to every other.
 use Prim.Native.Nat.{ℕ, zero, suc, _/_, _<_}
-use mathlib.Core.Bool.{true, false}
+use mathlib.Core.Bool.{Bool, true, false}
 use mathlib.Core.Logic.{_≢_}
 use mathlib.Core.Path.{_≡_, refl, ap, _∙_}
 use mathlib.Core.List.{List}
 use native.Mathlib.Omega.{arith}
-use lib.Dec.{T}
+use lib.Dec.{T, eqb}
 use lib.ListN.{length, getD, set, length-set}
 use lib.Seq.{getD-set-same, getD-set-other}
 use Rattle.terms.specs.Bounds.{places}
@@ -15,7 +15,7 @@ use Rattle.terms.specs.declared.orders.{Side.Side, Side.the-variants.Buy, Side.
 use Rattle.book.specs.declared.Book.{Book}
 use Rattle.places.specs.Places.{wordCount, isTaken, marked, unmarked}
 use Rattle.places.specs.Words.{marked-taken, marked-elsewhere, unmarked-free, unmarked-elsewhere, marked-length, unmarked-length}
-use Rattle.book.specs.Columns.{valuesAt, valuesOf, orderFrom, orderAt, emptyValues, written, stored, cleared}
+use Rattle.book.specs.Columns.{valuesAt, markOf, valuesOf, orderFrom, orderAt, emptyValues, written, stored, cleared}
 use Rattle.book.specs.declared.Values.{Values}
 
 -- eight words, and columns of 512
@@ -27,6 +27,7 @@ pub record Sized (b : Book) : Type 0 where
   pub validity : length (b .validity) ≡ places
   pub left : length (b .left) ≡ places
   pub limit : length (b .limit) ≡ places
+  pub quoted : length (b .quoted) ≡ places
 
 -- an order comes back from the columns as it was put there
 side-back : (s : Side) → sideFrom (sideNumber s) ≡ s
@@ -46,8 +47,12 @@ limit-back (At p) h = price-back (p .0) h where
   price-back zero h = absurd h
   price-back (suc n) h = refl
 
+mark-back : (quoted : Bool) → eqb (markOf quoted) 1 ≡ quoted
+mark-back true = refl
+mark-back false = refl
+
 order-back : (o : Resting) → T (isLimit (o .limit)) → orderFrom (valuesOf o) ≡ o
-order-back o h = rw (side-back (o .side), validity-back (o .validity), limit-back (o .limit) h)
+order-back o h = rw (side-back (o .side), validity-back (o .validity), limit-back (o .limit) h, mark-back (o .quoted))
 
 module _ (b : Book) (words : List ℕ) (place : ℕ) (r : Values) where
   written-elsewhere : (p : ℕ) → p ≢ place → valuesAt (written b words place r) p ≡ valuesAt b p
@@ -62,6 +67,7 @@ module _ (b : Book) (words : List ℕ) (place : ℕ) (r : Values) where
         cell (b .validity) (r .validity) (sized .validity),
         cell (b .left) (r .left) (sized .left),
         cell (b .limit) (r .limit) (sized .limit),
+        cell (b .quoted) (r .quoted) (sized .quoted),
       )
     where
       cell : (column : List ℕ) (x : ℕ) → length column ≡ places → getD (set column place x) place 0 ≡ x
@@ -76,6 +82,7 @@ module _ (b : Book) (words : List ℕ) (place : ℕ) (r : Values) where
     validity = rw length-set (sized .validity);
     left = rw length-set (sized .left);
     limit = rw length-set (sized .limit);
+    quoted = rw length-set (sized .quoted);
   }
 
 -- another book is as this one at a place

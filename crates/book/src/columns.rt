@@ -10,7 +10,7 @@ use terms::Validity;
 ghost use mathlib.Core.Path.{_≡_};
 ghost use Prim.Native.Nat.{_<_, _≤_, _+_};
 ghost use lib.ListN.{set};
-ghost use Rattle.book.specs.Columns.{valuesOf, emptyValues, emptyBook};
+ghost use Rattle.book.specs.Columns.{markOf, valuesOf, emptyValues, emptyBook};
 ghost use Rattle.book.specs.Groups.{hasNumber};
 ghost use Rattle.book.specs.Resting.{placeIn};
 ghost use Rattle.terms.specs.Bounds.{places};
@@ -28,9 +28,15 @@ pub fn validity_from(x: u8) -> Validity
     }
 }
 
-// An order under its number, as the columns hold it.
-pub fn values_of(number: u32, o: Order) -> Values
-    ensures { λ r. ⌜ r ≡ valuesOf (restingAs number o) ⌝ }
+fn mark_of(quoted: bool) -> u8
+    ensures { λ r. ⌜ r ≡ markOf quoted ⌝ }
+{
+    if quoted { 1 } else { 0 }
+}
+
+// An order under its number, a side of a quote or not, as the columns hold it.
+pub fn values_of(number: u32, quoted: bool, o: Order) -> Values
+    ensures { λ r. ⌜ r ≡ valuesOf (restingAs number quoted o) ⌝ }
 {
     let side = o.side;
     let validity = o.validity;
@@ -42,6 +48,7 @@ pub fn values_of(number: u32, o: Order) -> Values
         validity: validity.number(),
         left: o.quantity.number(),
         limit: limit.number(),
+        quoted: mark_of(quoted),
     }
 }
 
@@ -57,6 +64,7 @@ impl Values {
             member: 0,
             side: 0,
             validity: 0,
+            quoted: 0,
         }
     }
 }
@@ -95,6 +103,7 @@ impl Book {
             validity: [0u8; Place::COUNT],
             left: [0u32; Place::COUNT],
             limit: [0u32; Place::COUNT],
+            quoted: [0u8; Place::COUNT],
         }
     }
 }

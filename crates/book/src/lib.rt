@@ -2,6 +2,7 @@
 // (01 "Numbers and their bounds"). A free place holds the empty value 0 in every column.
 mod columns;
 mod hints;
+mod quotes;
 mod settling;
 
 pub use columns::place_of;
@@ -15,6 +16,11 @@ pub use hints::hint;
 pub use hints::hint_all;
 pub use hints::place_by_hint;
 use places::WORDS;
+pub use quotes::quote_place;
+pub use quotes::requote_words;
+pub use quotes::requote8;
+pub use quotes::requote16;
+pub use quotes::requote32;
 pub use settling::settled;
 use terms::Place;
 
@@ -26,6 +32,8 @@ pub struct Book {
     pub validity: [u8; Place::COUNT],
     pub left: [u32; Place::COUNT],
     pub limit: [u32; Place::COUNT],
+    // 1 where the order is a side of a quote.
+    pub quoted: [u8; Place::COUNT],
 }
 
 // What the columns hold at a place, the wide ones first: so a change travels in registers.
@@ -36,4 +44,11 @@ pub struct Values {
     pub member: u16,
     pub side: u8,
     pub validity: u8,
+    pub quoted: u8,
+}
+
+// The places of a quote's two sides; 512 where one rests nowhere.
+pub struct Pair {
+    pub bid: usize,
+    pub ask: usize,
 }

@@ -33,6 +33,7 @@ pub fn settled(mut b: Book, rests: &[u32; Place::COUNT]) -> Book
                 b.validity[place] = none.validity;
                 b.left[place] = none.left;
                 b.limit[place] = none.limit;
+                b.quoted[place] = none.quoted;
             } else {
                 b.left[place] = rest;
             }

@@ -29,7 +29,7 @@ orderChange number taken o = let place = lowestFree taken in record {
   given = number;
   place = place;
   word = withBit (place % wordPlaces) (getD taken (place / wordPlaces) 0);
-  values = valuesOf (restingAs number o);
+  values = valuesOf (restingAs number false o);
 }
 
 unfoldable pub orderEffect : Phase → Parameters → Price → ℕ → List ℕ → Entry → Effect
@@ -90,7 +90,7 @@ module _ (phase : Phase) (p : Parameters) (reference : Price) (given : ℕ) (tak
       pub place-left : place < places
       place-left = rw free (lowest-free-room taken (eqb-false (countTaken taken) places (clear rows tt (sym z ∙ order-hit) 10)))
 
-      pub order-done : {word : ℕ} {values : Values} → word ≡ withBit (place % wordPlaces) (getD taken (place / wordPlaces) 0) → values ≡ valuesOf (restingAs (given + 1) o)
+      pub order-done : {word : ℕ} {values : Values} → word ≡ withBit (place % wordPlaces) (getD taken (place / wordPlaces) 0) → values ≡ valuesOf (restingAs (given + 1) false o)
           → Effect.Done (record { given = given + 1; place = place; word = word; values = values }) ≡ orderEffect phase p reference given taken e
       unfolding orderEffect
       order-done bits same = rw (bits, free, same, good .1) (answered-done rows Effect.Refused (Effect.Done (orderChange (given + 1) taken (orderFrom e))) (sym z ∙ order-hit))

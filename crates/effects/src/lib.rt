@@ -57,7 +57,7 @@ pub fn order_effect(
         given: number,
         place,
         word,
-        values: book::values_of(number, o),
+        values: book::values_of(number, false, o),
     })
 }
 

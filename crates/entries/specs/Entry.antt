@@ -1,6 +1,6 @@
 -- Start, order and delete: what each call returns and leaves, refusals included.
 use Prim.Native.Nat.{ℕ, _+_}
-use mathlib.Core.Bool.{not}
+use mathlib.Core.Bool.{false, not}
 use mathlib.Core.List.{List}
 use Rattle.lists.specs.Choice.{any}
 use Rattle.terms.specs.Orders.{Resting, orderFrom, restingAs}
@@ -40,7 +40,7 @@ orderChecks s e = orderRows (s .phase) (s .parameters) (controlReference s) (s .
 
 -- an accepted order takes the next number and the lowest free place
 abbrev pub orderEntered : Session → Entry → Resting
-orderEntered s e = restingAs (s .given + 1) (orderFrom e)
+orderEntered s e = restingAs (s .given + 1) false (orderFrom e)
 
 abbrev pub enteredSession : Session → Entry → Session
 enteredSession s e = withBook s (s .given + 1) (stored (s .book) (lowestFree (s .book .taken)) (orderEntered s e))

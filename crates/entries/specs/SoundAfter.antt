@@ -1,6 +1,6 @@
 -- Start, order and delete hand Sound on (A3).
 use Prim.Native.Nat.{ℕ, _+_, _<_}
-use mathlib.Core.Bool.{Bool, true, false, not}
+use mathlib.Core.Bool.{Bool, true, false, not, true≢false}
 use mathlib.Core.Path.{_≡_, sym, _∙_}
 use native.Mathlib.Omega.{arith}
 use borrow.Author.Tests.{leb-false, eqb-false, not-false, ltb-true}
@@ -91,7 +91,7 @@ entered-sound s e sound = answered-cases (orderChecks s e) (orderRefused s) (ord
     done h =
         let ok = accepted s e h in
         with-book-sound s sound (ok .running) (s .given + 1) _ (omega (arith, ok .number-left))
-        (stored-sound (legalPrice s) (s .given) (s .book) (sound .book-sound) (lowestFree (s .book .taken)) (ok .room) (orderEntered s e) (omega arith) (entered-order-sound s e ok))
+        (stored-sound (legalPrice s) (s .given) (s .book) (sound .book-sound) (lowestFree (s .book .taken)) (ok .room) (orderEntered s e) (omega arith) (entered-order-sound s e ok) (λ p h i same. true≢false (sym (same .second))))
 
 -- Delete hands it on.
 pub deleted-sound : (s : Session) (number member : ℕ) → Sound s → Sound (deleted s number member .session)

@@ -26,5 +26,6 @@ pub fn changed(mut session: Session, c: Change) -> Session
     put8(&mut session.book.validity, place, values.validity);
     put32(&mut session.book.left, place, values.left);
     put32(&mut session.book.limit, place, values.limit);
+    put8(&mut session.book.quoted, place, values.quoted);
     session
 }

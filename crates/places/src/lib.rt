@@ -6,6 +6,8 @@ pub use words::WORDS;
 pub use words::bit_of;
 pub use words::count_taken;
 pub use words::lowest_free;
+pub use words::mark;
 pub use words::put_word;
+pub use words::unmark;
 pub use words::with_bit;
 pub use words::without_bit;

@@ -3,7 +3,7 @@ use terms::Place;
 ghost use mathlib.Core.Path.{_≡_};
 ghost use Prim.Native.Nat.{_<_, _≤_};
 ghost use lib.ListN.{set};
-ghost use Rattle.places.specs.Places.{wordPlaces, wordCount, bit, total, lowestFree, countTaken, withBit, withoutBit};
+ghost use Rattle.places.specs.Places.{wordPlaces, wordCount, bit, total, lowestFree, countTaken, withBit, withoutBit, markedAt, unmarkedAt};
 ghost use Rattle.places.specs.Words.{LowClear};
 
 // Eight words of 64 places each.
@@ -83,4 +83,23 @@ pub fn put_word(words: &mut [u64; WORDS], j: usize, word: u64)
     ensures { λ _. ⌜ now (words .exit) ≡ set (now (words .entry)) j word ⌝ }
 {
     words[j] = word;
+}
+
+// A place marked as taken in words that are lent, or freed; 512 is no place, and leaves them as they are.
+pub fn mark(words: &mut [u64; WORDS], place: usize)
+    ensures { λ _. ⌜ now (words .exit) ≡ markedAt (now (words .entry)) place ⌝ }
+{
+    if place < Place::COUNT {
+        let j = place / WORD_PLACES;
+        words[j] = with_bit(words[j], place % WORD_PLACES);
+    }
+}
+
+pub fn unmark(words: &mut [u64; WORDS], place: usize)
+    ensures { λ _. ⌜ now (words .exit) ≡ unmarkedAt (now (words .entry)) place ⌝ }
+{
+    if place < Place::COUNT {
+        let j = place / WORD_PLACES;
+        words[j] = without_bit(words[j], place % WORD_PLACES);
+    }
 }

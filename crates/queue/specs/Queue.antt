@@ -15,13 +15,14 @@ use Rattle.terms.specs.Bounds.{places, minPrice, maxPrice}
 use Rattle.terms.specs.Kinds.{isPrice}
 use Rattle.terms.specs.Orders.{Resting, sideNumber, sideFrom, validityFrom, limitFrom, isLimit}
 use Rattle.terms.specs.declared.orders.{Side.Side, Side.the-variants.Buy, Side.the-variants.Sell, Auction.Auction}
+use Rattle.terms.specs.Sides.{sameSide}
 use Rattle.book.specs.declared.Book.{Book}
 use Rattle.places.specs.Places.{isTaken}
 use Rattle.book.specs.Columns.{orderAt}
 use Rattle.book.specs.declared.Values.{Values}
 use Rattle.book.specs.Resting.{restingAt, restingTo, resting}
 use Rattle.book.specs.Sound.{SoundBook}
-use Rattle.queue.specs.Sides.{sameSide, allows, isUnlimited}
+use Rattle.queue.specs.Sides.{allows, isUnlimited}
 use Rattle.queue.specs.Part.{takesPart, takingPart}
 use Rattle.queue.specs.Rank.{ahead, onSide, ranked}
 use Rattle.queue.specs.RankNumbers.{limitRoom, numberRoom, rankOf, rankBound, placeOfRank, standsAs, ranksFrom}

@@ -11,7 +11,7 @@ use Rattle.lists.specs.Choice.{keep, keep-elim, keep-intro, keep-sum}
 use Rattle.lists.specs.Ranking.{rank, Ranked, Comparable, rank-sum, rank-elim, rank-intro, rank-ranked, ranked-unique}
 use Rattle.terms.specs.Orders.{Resting}
 use Rattle.terms.specs.declared.orders.{Side.Side, Side.the-variants.Buy, Side.the-variants.Sell, Limit.Limit, Limit.the-variants.Unlimited, Limit.the-variants.At}
-use Rattle.queue.specs.Sides.{sameSide}
+use Rattle.terms.specs.Sides.{sameSide}
 use Rattle.queue.specs.Distinct.{Distinct, distinct-keep}
 
 -- the better price: higher buys, lower sells

@@ -2,16 +2,9 @@
 use Prim.Native.Nat.{ℕ}
 use mathlib.Core.Bool.{Bool, true, false}
 use mathlib.Core.Logic.{_⊎_}
-use mathlib.Core.Path.{_≡_, refl}
 use lib.Dec.{T, leb}
 use Rattle.lists.specs.Tests.{tests, leb-total}
 use Rattle.terms.specs.declared.orders.{Side.Side, Side.the-variants.Buy, Side.the-variants.Sell, Limit.Limit, Limit.the-variants.Unlimited, Limit.the-variants.At}
-
-abbrev pub sameSide : Side → Side → Bool
-sameSide Buy Buy = true
-sameSide Buy Sell = false
-sameSide Sell Buy = false
-sameSide Sell Sell = true
 
 -- `noWorse s p q`: for side s the price p is as good as q, or better (a buyer likes it low, a seller high)
 abbrev pub noWorse : Side → ℕ → ℕ → Bool
@@ -38,13 +31,3 @@ noWorse-trans Sell p q r h k = omega tests
 pub noWorse-total : (s : Side) (p q : ℕ) → T (noWorse s p q) ⊎ T (noWorse s q p)
 noWorse-total Buy p q = leb-total p q
 noWorse-total Sell p q = leb-total q p
-
-pub sameSide-eq : (s t : Side) → T (sameSide s t) → s ≡ t
-sameSide-eq Buy Buy h = refl
-sameSide-eq Buy Sell h = absurd h
-sameSide-eq Sell Buy h = absurd h
-sameSide-eq Sell Sell h = refl
-
-pub sameSide-refl : (s : Side) → T (sameSide s s)
-sameSide-refl Buy = tt
-sameSide-refl Sell = tt

@@ -1,6 +1,6 @@
 -- Rows: the checks of each call, in the order of 01 "Refusals by number". Check 1 reads the numbers that come from outside; the later ones
 -- read what those say.
-use Prim.Native.Nat.{ℕ}
+use Prim.Native.Nat.{ℕ, _+_}
 use mathlib.Core.Bool.{Bool, not, _&&_, _||_}
 use mathlib.Core.List.{List, [], _∷_, _++_}
 use lib.Dec.{leb, ltb}
@@ -8,8 +8,10 @@ use Rattle.terms.specs.Bounds.{places, maxNumber, tradeListLength}
 use Rattle.terms.specs.Kinds.{isNumber, isMember}
 use Rattle.terms.specs.Orders.{isEntry, orderFrom, isSide, isAuction, auctionFrom}
 use Rattle.terms.specs.Parameters.{isStart}
+use Rattle.terms.specs.Quotes.{isQuote, quoteFrom, quoteOrder, isCrossed}
 use Rattle.terms.specs.declared.kinds.{Price.Price}
-use Rattle.terms.specs.declared.orders.{Entry.Entry, Order.Order, Auction.Auction}
+use Rattle.terms.specs.declared.orders.{Entry.Entry, Order.Order, Auction.Auction, Validity.Validity, Side.the-variants.Buy, Side.the-variants.Sell}
+use Rattle.terms.specs.declared.quotes.{QuoteEntry.QuoteEntry, Quote.Quote}
 use Rattle.terms.specs.declared.parameters.{Start.Start, Parameters.Parameters}
 use Rattle.refusals.specs.declared.phases.{Phase.Phase}
 use Rattle.refusals.specs.Phases.{hasStarted, allowsOrder, allowsAuction}
@@ -35,6 +37,28 @@ orderLater phase p reference given full o =
 
 abbrev pub orderRows : Phase → Parameters → Price → ℕ → Bool → Entry → List Check
 orderRows phase p reference given full e = check 1 (not (isEntry e)) ∷ orderLater phase p reference given full (orderFrom e)
+
+-- one of a quote's two orders hits: the bid is looked at first
+abbrev pub eitherSide : (Order → Bool) → Quote → Bool
+eitherSide hit q = hit (quoteOrder q Buy) || hit (quoteOrder q Sell)
+
+-- Quote (02 K2): 1, 13, 2, 4, 5, 6, 7, 8, 9, 10, those of a day order on the bid and then on the ask; by the reference price of the controls, the
+-- last number given and whether fewer than two places are free once the member's old quote is gone.
+abbrev pub quoteLater : Phase → Parameters → Price → ℕ → Bool → Quote → List Check
+quoteLater phase p reference given short q =
+    check 13 (isCrossed q)
+    ∷ check 2 (not (hasStarted phase))
+    ∷ check 4 (not (allowsOrder phase Validity.Day))
+    ∷ check 5 (eitherSide (λ o. offStep (p .step) (o .limit)) q)
+    ∷ check 6 (eitherSide (λ o. reachesCollar reference (p .factor) (o .limit)) q)
+    ∷ check 7 (eitherSide (λ o. reachesMost (p .most) (o .quantity) (o .limit)) q)
+    ∷ check 8 (eitherSide (λ o. reachesMostAtReference (p .most) (o .quantity) reference) q)
+    ∷ check 9 (ltb maxNumber (given + 2))
+    ∷ check 10 short
+    ∷ []
+
+abbrev pub quoteRows : Phase → Parameters → Price → ℕ → Bool → QuoteEntry → List Check
+quoteRows phase p reference given short e = check 1 (not (isQuote e)) ∷ quoteLater phase p reference given short (quoteFrom e)
 
 -- Delete: 1, 2, 11; by whether no resting order has this number and this member.
 abbrev pub deleteLater : Phase → Bool → List Check

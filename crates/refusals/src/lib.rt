@@ -3,6 +3,7 @@
 mod checks;
 mod controls;
 mod phases;
+mod quotes;
 
 pub use checks::auction_refusal;
 pub use checks::delete_refusal;
@@ -12,3 +13,5 @@ pub use checks::theoretical_refusal;
 pub use phases::Phase;
 pub use phases::has_started;
 pub use phases::phase_after;
+pub use quotes::QUOTE_NUMBERS;
+pub use quotes::quote_refusal;

@@ -10,6 +10,7 @@ use crate::orders::Order;
 use crate::orders::Side;
 use crate::orders::Validity;
 ghost use mathlib.Core.Path.{_≡_};
+ghost use Rattle.terms.specs.declared.orders.Side.the-variants.{Buy, Sell};
 ghost use Rattle.terms.specs.Quotes.{quoteSideOf, quoteOf, quoteOrder};
 
 // A side of a quote as it comes from outside: either field may hold any value.
@@ -78,27 +79,37 @@ impl Quote {
         QuoteMade::Good(Quote { member, bid, ask })
     }
 
-    // The order that a side is: limited, of validity day.
-    pub fn order(self, side: Side) -> Order
-        ensures { λ r. ⌜ r ≡ quoteOrder self side ⌝ }
+    // The bid as an order: a limited buy of validity day.
+    pub fn bid_order(self) -> Order
+        ensures { λ r. ⌜ r ≡ quoteOrder self Buy ⌝ }
     {
+        let member = self.member;
         let bid = self.bid;
+        let quantity = bid.quantity;
+        let limit = bid.limit;
+        Order {
+            member,
+            side: Side::Buy,
+            validity: Validity::Day,
+            quantity,
+            limit: Limit::At(limit),
+        }
+    }
+
+    // The ask: a limited sell.
+    pub fn ask_order(self) -> Order
+        ensures { λ r. ⌜ r ≡ quoteOrder self Sell ⌝ }
+    {
+        let member = self.member;
         let ask = self.ask;
-        match side {
-            Side::Buy => Order {
-                member: self.member,
-                side: Side::Buy,
-                validity: Validity::Day,
-                quantity: bid.quantity,
-                limit: Limit::At(bid.limit),
-            },
-            Side::Sell => Order {
-                member: self.member,
-                side: Side::Sell,
-                validity: Validity::Day,
-                quantity: ask.quantity,
-                limit: Limit::At(ask.limit),
-            },
+        let quantity = ask.quantity;
+        let limit = ask.limit;
+        Order {
+            member,
+            side: Side::Sell,
+            validity: Validity::Day,
+            quantity,
+            limit: Limit::At(limit),
         }
     }
 }

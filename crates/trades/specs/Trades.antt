@@ -10,7 +10,7 @@ use Rattle.lists.specs.Tests.{and-both, and-intro}
 use Rattle.lists.specs.Sums.{_∈_, counted, counted-mono, sum, sum-mono, le-sum, sum-zero, sum-swap}
 use Rattle.terms.specs.Orders.{Resting}
 use Rattle.terms.specs.declared.orders.{Side.Side, Side.the-variants.Buy, Side.the-variants.Sell}
-use Rattle.queue.specs.Sides.{sameSide-eq}
+use Rattle.terms.specs.Sides.{sameSide-eq}
 use Rattle.queue.specs.Rank.{onSide}
 use Rattle.price.specs.Interest.{accepts, interest, executable}
 use Rattle.price.specs.Candidates.{mostExecutable, candidates-suffice}

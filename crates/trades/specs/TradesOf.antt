@@ -10,7 +10,8 @@ use Rattle.lists.specs.Tests.{and-intro, passes}
 use Rattle.lists.specs.Sums.{_∈_, counted, counted-and, counted-le, sum, sum-mono, sum-same, sum-ones, sum-add}
 use Rattle.terms.specs.Orders.{Resting}
 use Rattle.terms.specs.declared.orders.{Side.Side, Side.the-variants.Buy, Side.the-variants.Sell}
-use Rattle.queue.specs.Sides.{allows, sameSide}
+use Rattle.terms.specs.Sides.{sameSide}
+use Rattle.queue.specs.Sides.{allows}
 use Rattle.queue.specs.Distinct.{Distinct, distinct-one, distinct-sum}
 use Rattle.queue.specs.Rank.{onSide, ahead, ranked, ranked-in-order, ranked-elim, ranked-intro, ranked-sum}
 use Rattle.fills.specs.Fill.{Fill, fill, filledBy, hasNumber, FrontPart, ranked-front, front-all, fill-zero, fill-length, fill-le, fill-all, fill-front, fill-passes, fill-in-order, filled-by-number, ranked-distinct}

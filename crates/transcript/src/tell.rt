@@ -106,6 +106,7 @@ fn records_told(
                         put8(&mut present.book.validity, spot, values.validity);
                         put32(&mut present.book.left, spot, values.left);
                         put32(&mut present.book.limit, spot, values.limit);
+                        put8(&mut present.book.quoted, spot, values.quoted);
                         hint(&mut hints, values.number, spot);
                         at = done_line(out, at, count, word, c.given);
                     }

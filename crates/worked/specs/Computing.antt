@@ -2,7 +2,7 @@
 use Rattle.lists.specs.Sums.{apart}
 use Rattle.places.specs.Places.{bit, least, total, marked, unmarked}
 use Rattle.book.specs.Columns.{stored, cleared}
-use Rattle.book.specs.Resting.{restingTo, findFrom, changedTo}
+use Rattle.book.specs.Resting.{restingTo, firstOf, changedTo}
 use Rattle.queue.specs.Part.{takingPart}
 use Rattle.queue.specs.Rank.{ranked}
 use Rattle.fills.specs.Front.{front}
@@ -19,5 +19,5 @@ use Rattle.answers.specs.Auctions.{outcomeOf, auctioned, theoretical}
 use Rattle.standings.specs.Queues.{queued, filledFront}
 
 unfoldable pub computing : Unit {0}
-unfolding apart bit least total marked unmarked stored cleared restingTo findFrom changedTo takingPart ranked front interest mostExecutable auctionPrice traded fills tradesOf nonOpening outcome restOf firstHit started entered deleted outcomeOf auctioned theoretical queued filledFront
+unfolding apart bit least total marked unmarked stored cleared restingTo firstOf changedTo takingPart ranked front interest mostExecutable auctionPrice traded fills tradesOf nonOpening outcome restOf firstHit started entered deleted outcomeOf auctioned theoretical queued filledFront
 computing = tt

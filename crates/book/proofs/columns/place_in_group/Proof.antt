@@ -7,7 +7,7 @@ use borrow.Author.Needs.{needs}
 use borrow.Author.Tests.{ne-eqb}
 use native.Mathlib.Numerals.{add-one}
 use native.Mathlib.Omega.{arith}
-use Rattle.book.specs.Resting.{placeIn, place-in-hit, place-in-miss, place-in-end}
+use Rattle.book.specs.Resting.{placeIn, first-hit, first-miss, first-end}
 use Rattle.book.proofs.columns.place_in_group.Statement.{statement}
 use Rattle.book.proofs.columns.place_in_group.Tie as tie
 
@@ -63,7 +63,7 @@ returns c =
     sym
     (l .before .loop .inv .1 ∙
     rw (left-more _ _ (l .loop-test .taken))
-    (place-in-hit _ _ _ _ _ _ _ (rw (← c .before .bit-of .ensures, c .if2 .taken, if1 .taken))))
+    (first-hit _ _ _ (rw (← c .before .bit-of .ensures, c .if2 .taken, if1 .taken))))
 
 add-place : tie.Need-add-place Inv-loop μ-loop
 add-place c = search needs
@@ -77,14 +77,14 @@ loop-again c =
       search needs,
       l .before .loop .inv .1 ∙
           rw (left-more _ _ (l .loop-test .taken), add-one)
-          (place-in-miss _ _ _ _ _ _ _
+          (first-miss _ _ _
           (⊎-elim (λ w. rw (← w .2 .ensures, ne-eqb _ 1 (w .3 .left))) (λ w. rw (w .left, and-false)) (c .if1 .came))),
     )
 
 returns-2 : tie.Need-returns-2 Inv-loop μ-loop
 returns-2 c =
     let e : c .before .loop .place ≡ c .before .before .args .from + 8 = omega arith in
-    sym (rw (e, none-left (c .before .before .args .from + 8)) at (c .before .loop .inv .1) ∙ place-in-end _ _ _ _ _ _)
+    sym (rw (e, none-left (c .before .before .args .from + 8)) at (c .before .loop .inv .1) ∙ first-end _ _)
 
 pub place-in-group-spec : {M : Type 1} → statement M
 place-in-group-spec =

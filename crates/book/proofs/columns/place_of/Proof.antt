@@ -4,8 +4,8 @@ use mathlib.Core.Logic.{⊎-elim}
 use mathlib.Core.Path.{_≡_, _∙_, sym}
 use borrow.Author.Needs.{needs}
 use native.Mathlib.Omega.{arith}
-use Rattle.book.specs.Groups.{place-in-none, place-in-found, place-in-past}
-use Rattle.book.specs.Resting.{placeIn, place-in-end}
+use Rattle.book.specs.Groups.{place-in-none, first-found, first-past}
+use Rattle.book.specs.Resting.{placeIn, first-end}
 use Rattle.book.proofs.columns.place_of.Statement.{statement}
 use Rattle.book.proofs.columns.place_of.Tie as tie
 
@@ -41,7 +41,7 @@ returns c =
     sym
     (l .before .loop .inv .2 ∙
     rw (left-more _ within)
-    (place-in-found _ _ _ _ _ 8 _ _ (rw (← e) (c .if2 .taken))))
+    (first-found _ 8 _ _ (rw (← e) (c .if2 .taken))))
 
 add-place : tie.Need-add-place Inv-loop μ-loop
 add-place c = search needs
@@ -57,17 +57,17 @@ loop-again c =
       search needs,
       l .before .loop .inv .2 ∙
           rw (left-more _ within)
-          (place-in-past _ _ _ _ _ 8 _ _
+          (first-past _ 8 _ _
           (⊎-elim
           (λ w. rw (← w .1 .ensures) (omega (arith, w .2 .left)))
-          (λ w. place-in-none _ _ _ _ _ 8 _ (sym (c .before .has-number .ensures) ∙ w .left))
+          (λ w. let a = l .before .before .args in place-in-none (a .taken .now) (a .numbers .now) (a .members .now) (a .number) (a .member) 8 _ (sym (c .before .has-number .ensures) ∙ w .left))
           (c .if1 .came))),
     )
 
 returns-2 : tie.Need-returns-2 Inv-loop μ-loop
 returns-2 c =
     let e : c .before .loop .place ≡ 512 = omega arith in
-    sym (rw e at (c .before .loop .inv .2) ∙ place-in-end _ _ _ _ _ _)
+    sym (rw e at (c .before .loop .inv .2) ∙ first-end _ _)
 
 pub place-of-spec : {M : Type 1} → statement M
 place-of-spec =

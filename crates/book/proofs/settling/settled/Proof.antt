@@ -94,6 +94,9 @@ mul-b-5 c = search needs
 element-write-b-7 : tie.Need-element-write-b-7 Inv-loop μ-loop
 element-write-b-7 c = search needs
 
+element-write-b-8 : tie.Need-element-write-b-8 Inv-loop μ-loop
+element-write-b-8 c = search needs
+
 add-place-2 : tie.Need-add-place-2 Inv-loop μ-loop
 add-place-2 c = search needs
 
@@ -145,8 +148,9 @@ settled-spec =
     element-write-b-5
     mul-b-4
     element-write-b-6
-    mul-b-5
     element-write-b-7
+    mul-b-5
+    element-write-b-8
     add-place-2
     loop-less-2
     loop-again-2

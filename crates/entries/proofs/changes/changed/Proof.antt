@@ -24,6 +24,9 @@ put32-requires-2 c κs = search needs
 put32-requires-3 : tie.Need-put32-requires-3
 put32-requires-3 c κs = search needs
 
+put8-requires-3 : tie.Need-put8-requires-3
+put8-requires-3 c κs = search needs
+
 returns : tie.Need-returns
 returns c = cc
 
@@ -38,4 +41,5 @@ changed-spec =
     put8-requires-2
     put32-requires-2
     put32-requires-3
+    put8-requires-3
     returns)
