@@ -60,6 +60,8 @@ struct Order {
     validity: u64,
     open: u64,
     limit: Limit,
+    /// K2: whether it is a side of its member's quote.
+    quote_side: bool,
 }
 
 #[derive(Clone, Copy, PartialEq)]
@@ -156,6 +158,14 @@ fn check_delete([number, member]: [u64; 2]) -> Result<(), Refusal> {
     refuse(1, !MEMBER.contains(&member))
 }
 
+/// K2, check 1 of a quote: its limits are prices, 0 is none; a bid not below its ask is in range.
+fn check_quote(fields: [u64; 5]) -> Result<(), Refusal> {
+    let [member, bid_quantity, bid_limit, ask_quantity, ask_limit] = fields;
+    refuse(1, !MEMBER.contains(&member))?;
+    refuse(1, !QUANTITY.contains(&bid_quantity) || !PRICE.contains(&bid_limit))?;
+    refuse(1, !QUANTITY.contains(&ask_quantity) || !PRICE.contains(&ask_limit))
+}
+
 struct Session {
     phase: Phase,
     step: u64,
@@ -203,19 +213,81 @@ impl Session {
         refuse(4, validity == AT_THE_OPENING && self.phase != Phase::PreOpening)?;
         // An unlimited order skips 5, 6 and 7.
         if let Limit::Price(limit) = limit {
-            refuse(5, !limit.is_multiple_of(self.step))?;
-            refuse(6, limit >= self.reference * self.factor)?;
-            refuse(6, limit * self.factor <= self.reference)?;
-            refuse(7, quantity * limit >= self.maximum)?;
+            refuse(5, self.off_step(limit))?;
+            refuse(6, self.at_the_collar(limit))?;
+            refuse(7, self.too_large(quantity, limit))?;
         }
-        refuse(8, quantity * self.reference >= self.maximum)?;
+        refuse(8, self.too_large(quantity, self.reference))?;
         refuse(9, self.numbers_given == *ORDER_NUMBER.end())?;
-        // "Numbers and their bounds": an accepted order takes the lowest free place.
-        let place = self.book.iter_mut().find(|place| place.is_none()).ok_or(10u64)?;
-        self.numbers_given += 1;
-        let number = self.numbers_given;
-        *place = Some(Order { number, member, side, validity, open: quantity, limit });
+        refuse(10, self.book.iter().all(Option::is_some))?;
+        let (number, open, quote_side) = (self.numbers_given + 1, quantity, false);
+        self.enter(Order { number, member, side, validity, open, limit, quote_side });
         Ok(number)
+    }
+
+    /// K2, "Order of checks" of a quote: 1, 13, 2, 4, 5, 6, 7, 8, 9, 10. Answers the numbers given
+    /// to the bid and to the ask.
+    fn quote(&mut self, fields: [u64; 5]) -> Result<[u64; 2], Refusal> {
+        check_quote(fields)?;
+        let [member, bid_quantity, bid_limit, ask_quantity, ask_limit] = fields;
+        refuse(13, bid_limit >= ask_limit)?;
+        refuse(2, self.phase == Phase::Fresh)?;
+        // Phase rules of a day order: refused when closed.
+        refuse(4, self.phase == Phase::Closed)?;
+        // K2: each check on the bid and then on the ask, before the next check.
+        let sides = [(Side::Buy, bid_quantity, bid_limit), (Side::Sell, ask_quantity, ask_limit)];
+        for (_, _, limit) in sides {
+            refuse(5, self.off_step(limit))?;
+        }
+        for (_, _, limit) in sides {
+            refuse(6, self.at_the_collar(limit))?;
+        }
+        for (_, quantity, limit) in sides {
+            refuse(7, self.too_large(quantity, limit))?;
+        }
+        for (_, quantity, _) in sides {
+            refuse(8, self.too_large(quantity, self.reference))?;
+        }
+        // K2: 9 when fewer than two numbers are left.
+        refuse(9, self.numbers_given + 2 > *ORDER_NUMBER.end())?;
+        // K2: 10 when fewer than two places would be free once the old quote's rests are gone.
+        let old = |order: Order| order.quote_side && order.member == member;
+        let free = self.book.iter().filter(|place| place.is_none_or(old)).count();
+        refuse(10, free < 2)?;
+        for place in &mut self.book {
+            if place.is_some_and(old) {
+                *place = None;
+            }
+        }
+        // K2: bid takes the first of two new numbers and places, ask the second; validity is day.
+        let numbers = [self.numbers_given + 1, self.numbers_given + 2];
+        for (number, (side, open, limit)) in numbers.into_iter().zip(sides) {
+            let (validity, limit, quote_side) = (DAY, Limit::Price(limit), true);
+            self.enter(Order { number, member, side, validity, open, limit, quote_side });
+        }
+        Ok(numbers)
+    }
+
+    /// Refusal 5.
+    fn off_step(&self, limit: u64) -> bool {
+        !limit.is_multiple_of(self.step)
+    }
+
+    /// Refusal 6: at either end "reaches" counts as a hit.
+    fn at_the_collar(&self, limit: u64) -> bool {
+        limit >= self.reference * self.factor || limit * self.factor <= self.reference
+    }
+
+    /// Refusals 7 and 8, at the limit and at the reference price.
+    fn too_large(&self, quantity: u64, price: u64) -> bool {
+        quantity * price >= self.maximum
+    }
+
+    /// "Numbers and their bounds": an accepted order takes the lowest free place.
+    fn enter(&mut self, order: Order) {
+        let free = self.book.iter_mut().find(|place| place.is_none());
+        *free.expect("check 10 found a free place") = Some(order);
+        self.numbers_given = order.number;
     }
 
     /// "Order of checks", delete: 1, 2, 11. Allowed in every started phase.
@@ -488,6 +560,7 @@ const START_SIZES: [usize; 5] = [4, 4, 2, 2, 8];
 const ORDER_SIZES: [usize; 5] = [2, 1, 1, 4, 4];
 const DELETE_SIZES: [usize; 2] = [4, 2];
 const AUCTION_SIZES: [usize; 1] = [1];
+const QUOTE_SIZES: [usize; 5] = [2, 4, 4, 4, 4];
 
 /// "Session file": a record with its fields, by its kind.
 enum Record {
@@ -495,6 +568,7 @@ enum Record {
     Order([u64; 5]),
     Delete([u64; 2]),
     Auction([u64; 1]),
+    Quote([u64; 5]),
 }
 
 /// "Session file": the first record, and the file behind it.
@@ -508,6 +582,7 @@ fn first_record(file: &[u8]) -> Option<(Record, &[u8])> {
         (2, 16) => Record::Order(fields(part, ORDER_SIZES)?),
         (3, 10) => Record::Delete(fields(part, DELETE_SIZES)?),
         (4, 5) => Record::Auction(fields(part, AUCTION_SIZES)?),
+        (5, 22) => Record::Quote(fields(part, QUOTE_SIZES)?),
         _ => return None,
     };
     Some((record, file.get(length..)?))
@@ -548,6 +623,10 @@ fn answer(session: &mut Session, record: &Record) -> String {
                 lines
             }
             Err(refusal) => format!("auction {refusal} 0 0 0 0\n"),
+        },
+        Record::Quote(fields) => match session.quote(fields) {
+            Ok([bid, ask]) => format!("quote 0 {bid} {ask}\n"),
+            Err(refusal) => format!("quote {refusal} 0 0\n"),
         },
     }
 }

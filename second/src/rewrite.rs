@@ -34,6 +34,10 @@ pub fn write(record: &Record, buffer: &mut Vec<u8>) -> Result<(), Refusal> {
             auction_of(auction)?;
             put(4, [auction], AUCTION_SIZES, buffer);
         }
+        Record::Quote(fields) => {
+            check_quote(fields)?;
+            put(5, fields, QUOTE_SIZES, buffer);
+        }
     }
     Ok(())
 }

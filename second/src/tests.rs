@@ -44,6 +44,17 @@ fn auction(which: u8) -> Vec<u8> {
     record(4, &[&[which]])
 }
 
+/// A quantity and a limit for the bid, and for the ask.
+fn quote_of(member: u16, bid: (u32, u32), ask: (u32, u32)) -> Vec<u8> {
+    let last = [bid.0, bid.1, ask.0, ask.1].map(u32::to_le_bytes).concat();
+    record(5, &[&member.to_le_bytes(), &last])
+}
+
+/// A quote of member 7 for 10 on both sides.
+fn quote(bid: u32, ask: u32) -> Vec<u8> {
+    quote_of(7, (10, bid), (10, ask))
+}
+
 /// Runs the records and compares whole; the expected lines are joined with line ends.
 fn check(records: &[Vec<u8>], expected: &[&str]) {
     assert_eq!(run(&records.concat()), expected.join("\n") + "\n");
@@ -125,6 +136,10 @@ fn record_bytes_of_the_other_kinds() {
     assert_eq!(day(BUY, 50, 100_200), [16, 0, 2, 0, 7, 0, 1, 3, 50, 0, 0, 0, 0x68, 0x87, 1, 0]);
     assert_eq!(delete(258, 7), [10, 0, 3, 0, 2, 1, 0, 0, 7, 0]);
     assert_eq!(auction(CLOSING), [5, 0, 4, 0, 2]);
+    assert_eq!(
+        quote_of(7, (50, 100_200), (258, 100_400)),
+        [22, 0, 5, 0, 7, 0, 50, 0, 0, 0, 0x68, 0x87, 1, 0, 2, 1, 0, 0, 0x30, 0x88, 1, 0]
+    );
 }
 
 #[test]
@@ -302,9 +317,11 @@ fn faults() {
     // An unknown kind or a wrong length, whole or with bytes missing; what follows isn't read.
     for bad in [
         record(0, &[]),
-        record(5, &[&[1]]),
+        record(9, &[&[1]]),
         record(3, &[]),
         record(4, &[&[1, 1]]),
+        record(5, &[&[1; 17]]),
+        record(5, &[&[1; 19]]),
         vec![0, 0, 1, 0],
         vec![24, 0, 2, 0],
         vec![255, 255, 9, 0],
@@ -313,9 +330,11 @@ fn faults() {
         check(&[start(), bad, auction(OPENING)], &["1 start 0", "2 fault 1", "end 1"]);
     }
     // A cut record behind a good one.
-    for cut in 1..16 {
-        let cut = day(BUY, 1, 100_000)[..cut].to_vec();
-        check(&[start(), cut], &["1 start 0", "2 fault 1", "end 1"]);
+    for record in [day(BUY, 1, 100_000), quote(99_900, 100_000)] {
+        for cut in 1..record.len() {
+            let cut = record[..cut].to_vec();
+            check(&[start(), cut], &["1 start 0", "2 fault 1", "end 1"]);
+        }
     }
     // Before the start too: a field out of range goes on, a fault ends.
     check(&[delete(0, 0), vec![5, 0, 4, 0]], &["1 delete 1", "2 fault 1", "end 1"]);
@@ -590,9 +609,10 @@ fn any_bytes() {
         for _ in 0..draw(60) {
             let limit = [UNLIMITED, 98_000 + 100 * draw(40) as u32][draw(8).min(1) as usize];
             let number = draw(40) as u32;
-            file.extend(match draw(12) {
+            file.extend(match draw(14) {
                 0 => delete(number, 7),
                 1 => auction(draw(4) as u8),
+                2 | 3 => quote_of(7 + draw(2) as u16, (number, limit), (1 + number, limit + 200)),
                 _ => order_of(7, draw(9) as u8 % 2 + 1, draw(6) as u8, number, limit),
             });
         }
@@ -877,7 +897,7 @@ fn write_the_worked_start() {
     assert_eq!(written, [&bytes[..], &[5, 0, 4, 0, 2]].concat());
 }
 
-/// Good records of all four kinds, each field with its ends and with bytes that all differ.
+/// Good records of all five kinds, each field with its ends and with bytes that all differ.
 fn good_records() -> Vec<Vec<u8>> {
     vec![
         start(),
@@ -889,6 +909,11 @@ fn good_records() -> Vec<Vec<u8>> {
         delete(1_000_000, 1),
         auction(OPENING),
         auction(CLOSING),
+        quote_of(0x0201, (0x0076_5432, 0x0432_1076), (0x0065_4321, 0x0543_2107)),
+        quote_of(1, (1, 1), (10_000_000, 100_000_000)),
+        // Good though the calls would be refused by 13.
+        quote_of(65_535, (10_000_000, 100_000_000), (1, 1)),
+        quote_of(65_535, (1, 100), (1, 100)),
         // Good though its call would be refused by 3.
         start_with(1_000_000, 100_000_000, 999, 9_999, 1_000_000_000_000_000),
         start_with(1, 1, 2, 1, 1),
@@ -936,6 +961,15 @@ fn rewrite_up_to_a_bad_field() {
         delete(7, 0),
         auction(0),
         auction(3),
+        quote_of(0, (1, 100), (1, 200)),
+        quote_of(7, (0, 100), (1, 200)),
+        quote_of(7, (10_000_001, 100), (1, 200)),
+        quote_of(7, (1, 0), (1, 200)),
+        quote_of(7, (1, 100_000_001), (1, 200)),
+        quote_of(7, (1, 100), (0, 200)),
+        quote_of(7, (1, 100), (10_000_001, 200)),
+        quote_of(7, (1, 100), (1, 0)),
+        quote_of(7, (1, 100), (1, 100_000_001)),
     ] {
         // It is the third record, and the call on it answers 1.
         let file = [start(), day(BUY, 1, UNLIMITED), bad, auction(OPENING)];
@@ -951,9 +985,11 @@ fn rewrite_up_to_a_fault() {
     let (before, behind) = (good_records().concat(), auction(OPENING));
     for bad in [
         record(0, &[]),
-        record(5, &[&[1]]),
+        record(9, &[&[1]]),
         record(3, &[]),
         record(4, &[&[1, 1]]),
+        record(5, &[&[1; 17]]),
+        record(5, &[&[1; 19]]),
         vec![0, 0, 1, 0],
         vec![24, 0, 2, 0],
         vec![255, 255, 9, 0],
@@ -967,4 +1003,436 @@ fn rewrite_up_to_a_fault() {
             assert_eq!(rewrite(&[&before[..], &record[..cut]].concat()), before);
         }
     }
+}
+
+/// What a book holds, place by place: number, quantity left and whether it is a quote side.
+fn places(session: &Session) -> Vec<Option<(u64, u64, bool)>> {
+    let told = |order: Order| (order.number, order.open, order.quote_side);
+    let book: Vec<_> = session.book.iter().map(|place| place.map(told)).collect();
+    let taken = book.iter().rposition(Option::is_some).map_or(0, |place| place + 1);
+    book[..taken].to_vec()
+}
+
+/// K2: the two numbers run on, the two lowest free places are taken, and validity is day.
+#[test]
+fn quote_entered() {
+    let records = [
+        start(),
+        day(BUY, 1, 99_000),
+        day(BUY, 2, 99_000),
+        day(BUY, 3, 99_000),
+        delete(1, 7),
+        delete(2, 7),
+        quote_of(8, (40, 99_800), (50, 100_200)),
+        day(SELL, 6, 101_000),
+    ];
+    let lines = run(&records.concat());
+    assert!(lines.ends_with("\n7 quote 0 4 5\n8 order 0 6\nend 8\n"));
+    let session = session(&records);
+    let expected =
+        [Some((4, 40, true)), Some((5, 50, true)), Some((3, 3, false)), Some((6, 6, false))];
+    assert_eq!(places(&session), expected);
+    let sides: Vec<Order> = session.book.iter().flatten().take(2).copied().collect();
+    assert!(sides.iter().all(|side| side.member == 8 && side.validity == DAY));
+    assert!(sides[0].side == Side::Buy && sides[0].limit == Limit::Price(99_800));
+    assert!(sides[1].side == Side::Sell && sides[1].limit == Limit::Price(100_200));
+}
+
+/// K2: a member has at most one quote, and its plain orders are never touched; nor is another
+/// member's quote.
+#[test]
+fn quote_overwritten() {
+    let records = [
+        start(),
+        day(BUY, 1, 99_000),
+        quote(99_800, 100_200),
+        quote_of(8, (30, 99_700), (30, 100_300)),
+        day(SELL, 1, 101_000),
+        quote(99_900, 100_100),
+        delete(2, 7),
+        delete(3, 7),
+        delete(1, 7),
+        delete(6, 7),
+        delete(4, 8),
+        delete(7, 7),
+        delete(8, 7),
+    ];
+    check(
+        &records,
+        &[
+            "1 start 0",
+            "2 order 0 1",
+            "3 quote 0 2 3",
+            "4 quote 0 4 5",
+            "5 order 0 6",
+            "6 quote 0 7 8",
+            "7 delete 11",
+            "8 delete 11",
+            "9 delete 0",
+            "10 delete 0",
+            "11 delete 0",
+            "12 delete 0",
+            "13 delete 0",
+            "end 13",
+        ],
+    );
+    // The old quote's places are the lowest that are free.
+    let expected = [
+        Some((1, 1, false)),
+        Some((7, 10, true)),
+        Some((8, 10, true)),
+        Some((4, 30, true)),
+        Some((5, 30, true)),
+        Some((6, 1, false)),
+    ];
+    assert_eq!(places(&session(&records[..6])), expected);
+}
+
+/// K2: 10 exactly when fewer than two places would be free once the old quote is gone.
+#[test]
+fn quote_in_a_full_book() {
+    let (seven, eight) = (quote(99_800, 100_200), quote_of(8, (10, 99_800), (10, 100_200)));
+    let mut records = vec![start(), seven.clone()];
+    records.extend(vec![day(BUY, 1, 99_000); 509]);
+    records.extend([
+        // One place is free.
+        eight.clone(),
+        seven.clone(),
+        day(BUY, 1, 99_000),
+        // The book is full.
+        seven.clone(),
+        eight.clone(),
+        delete(515, 7),
+        // One place is free, and half of the quote is left.
+        eight.clone(),
+        seven.clone(),
+        // Full again; the place of a deleted side goes to a plain order.
+        delete(518, 7),
+        day(BUY, 1, 99_000),
+        seven.clone(),
+        delete(517, 7),
+        // One place is free, and nothing is left of the quote.
+        seven.clone(),
+        delete(3, 7),
+        seven.clone(),
+        eight,
+    ]);
+    let lines = run(&records.concat());
+    let expected = [
+        "511 order 0 511",
+        "512 quote 10 0 0",
+        "513 quote 0 512 513",
+        "514 order 0 514",
+        "515 quote 0 515 516",
+        "516 quote 10 0 0",
+        "517 delete 0",
+        "518 quote 10 0 0",
+        "519 quote 0 517 518",
+        "520 delete 0",
+        "521 order 0 519",
+        "522 quote 10 0 0",
+        "523 delete 0",
+        "524 quote 10 0 0",
+        "525 delete 0",
+        "526 quote 0 520 521",
+        "527 quote 10 0 0",
+        "end 527\n",
+    ];
+    assert!(lines.ends_with(&expected.join("\n")), "{lines}");
+}
+
+/// K2: the order of checks, each on the bid and then on the ask; 13 stands between 1 and 2.
+#[test]
+fn quote_refused_in_order() {
+    let far = 900_000;
+    check(
+        &[
+            quote_of(0, (1, 200), (1, 100)),
+            quote(0, 100),
+            quote(100, 0),
+            quote(100_000_001, 100),
+            quote_of(7, (0, 200), (1, 100)),
+            quote_of(7, (1, 200), (10_000_001, 100)),
+            quote(200, 100),
+            quote(100, 100),
+            quote(100, 200),
+            start(),
+            quote(100_050, 100_050),
+            quote(100_050, far),
+            // 5 on the ask goes before 6, 7 and 8 on the bid.
+            quote_of(7, (10_000_000, 11_100), (10_000_000, 100_050)),
+            // 6 on the ask goes before 7 on the bid.
+            quote_of(7, (10_000_000, 100_000), (1, far)),
+            quote_of(7, (10_000_000, 11_100), (1, 100_100)),
+            // 7 on the ask goes before 8 on the bid.
+            quote_of(7, (10_000_000, 99_900), (10_000_000, 100_000)),
+            quote_of(7, (10_000_000, 100_000), (1, 100_100)),
+            quote_of(7, (10_000_000, 99_800), (1, 99_900)),
+            quote_of(7, (1, 99_800), (10_000_000, 99_900)),
+            quote(99_800, 99_900),
+            auction(OPENING),
+            auction(CLOSING),
+            quote_of(7, (10_000_000, 50), (10_000_000, 100_050)),
+            quote(200, 100),
+            quote(0, 100),
+        ],
+        &[
+            "1 quote 1 0 0",
+            "2 quote 1 0 0",
+            "3 quote 1 0 0",
+            "4 quote 1 0 0",
+            "5 quote 1 0 0",
+            "6 quote 1 0 0",
+            "7 quote 13 0 0",
+            "8 quote 13 0 0",
+            "9 quote 2 0 0",
+            "10 start 0",
+            "11 quote 13 0 0",
+            "12 quote 5 0 0",
+            "13 quote 5 0 0",
+            "14 quote 6 0 0",
+            "15 quote 6 0 0",
+            "16 quote 7 0 0",
+            "17 quote 7 0 0",
+            "18 quote 8 0 0",
+            "19 quote 8 0 0",
+            "20 quote 0 1 2",
+            "21 auction 0 2 0 0 0",
+            "22 auction 0 2 0 0 0",
+            "23 quote 4 0 0",
+            "24 quote 13 0 0",
+            "25 quote 1 0 0",
+            "end 25",
+        ],
+    );
+}
+
+/// K2: both sides pass, or neither is entered and the old quote stays; no number is used.
+#[test]
+fn quote_refused_leaves_the_old() {
+    let old = [start(), quote(99_800, 100_200)];
+    for (refused, answer) in [
+        (quote(0, 100_000), 1),
+        (quote(100_000, 100_000), 13),
+        (quote(99_850, 100_000), 5),
+        (quote(99_800, 100_050), 5),
+        (quote(11_100, 100_000), 6),
+        (quote(99_800, 900_000), 6),
+        (quote_of(7, (5_000_000, 200_000), (1, 200_100)), 7),
+        (quote_of(7, (1, 99_800), (5_000_000, 200_000)), 7),
+        (quote_of(7, (10_000_000, 99_800), (1, 99_900)), 8),
+        (quote_of(7, (1, 99_800), (10_000_000, 99_900)), 8),
+    ] {
+        let records = [&old[..], &[refused, quote(99_900, 100_100)]].concat();
+        let refusal = format!("3 quote {answer} 0 0");
+        check(&records, &["1 start 0", "2 quote 0 1 2", &refusal, "4 quote 0 3 4", "end 4"]);
+        let stays = [Some((1, 10, true)), Some((2, 10, true))];
+        assert_eq!(places(&session(&records[..3])), stays);
+    }
+}
+
+/// One side deleted by its number: the other stays and is what is left of the quote.
+#[test]
+fn quote_with_a_side_deleted() {
+    check(
+        &[
+            start(),
+            quote(99_800, 100_200),
+            delete(1, 8),
+            delete(1, 7),
+            delete(1, 7),
+            // Meets the ask alone.
+            day(BUY, 4, 100_200),
+            quote(99_700, 100_300),
+            delete(2, 7),
+            auction(OPENING),
+            delete(4, 7),
+            quote(99_700, 100_300),
+            delete(5, 7),
+            delete(6, 7),
+            delete(7, 7),
+        ],
+        &[
+            "1 start 0",
+            "2 quote 0 1 2",
+            "3 delete 11",
+            "4 delete 0",
+            "5 delete 11",
+            "6 order 0 3",
+            "7 quote 0 4 5",
+            "8 delete 11",
+            "9 auction 0 2 0 0 0",
+            "10 delete 0",
+            "11 quote 0 6 7",
+            "12 delete 11",
+            "13 delete 0",
+            "14 delete 0",
+            "end 14",
+        ],
+    );
+}
+
+/// Sides trade as orders do; what is left of a half executed quote is overwritten, rest and all.
+#[test]
+fn quote_half_executed() {
+    let records = [
+        start(),
+        quote_of(7, (100, 100_000), (100, 100_200)),
+        day(SELL, 30, 100_000),
+        auction(OPENING),
+        quote_of(7, (50, 100_000), (100, 100_100)),
+        day(SELL, 200, 100_000),
+        auction(CLOSING),
+    ];
+    check(
+        &records,
+        &[
+            "1 start 0",
+            "2 quote 0 1 2",
+            "3 order 0 3",
+            "4 auction 0 1 100000 30 1",
+            "trade 1 3 30",
+            "5 quote 0 4 5",
+            "6 order 0 6",
+            "7 auction 0 1 100000 50 1",
+            "trade 4 6 50",
+            "end 7",
+        ],
+    );
+    assert_eq!(places(&session(&records[..4])), [Some((1, 70, true)), Some((2, 100, true))]);
+    assert_eq!(places(&session(&records[..5])), [Some((4, 50, true)), Some((5, 100, true))]);
+}
+
+/// Two members' quotes cross at the opening: rank by price and then by number, whatever they are.
+#[test]
+fn quotes_cross() {
+    check(
+        &[
+            start(),
+            quote_of(7, (10, 100_100), (10, 100_300)),
+            quote_of(8, (20, 99_700), (25, 100_100)),
+            day(BUY, 20, 100_100),
+            day(BUY, 5, 100_200),
+            auction(OPENING),
+        ],
+        &[
+            "1 start 0",
+            "2 quote 0 1 2",
+            "3 quote 0 3 4",
+            "4 order 0 5",
+            "5 order 0 6",
+            "6 auction 0 1 100100 25 3",
+            "trade 6 4 5",
+            "trade 1 4 10",
+            "trade 5 4 10",
+            "end 6",
+        ],
+    );
+}
+
+/// Validity is day: a quote stays after the opening and ends at the close.
+#[test]
+fn quote_until_the_close() {
+    let records = [
+        start(),
+        quote(99_800, 100_200),
+        order_of(7, BUY, 4, 1, 99_000),
+        auction(OPENING),
+        auction(CLOSING),
+        delete(1, 7),
+        delete(2, 7),
+        delete(3, 7),
+    ];
+    check(
+        &records,
+        &[
+            "1 start 0",
+            "2 quote 0 1 2",
+            "3 order 0 3",
+            "4 auction 0 2 0 0 0",
+            "5 auction 0 2 0 0 0",
+            "6 delete 11",
+            "7 delete 11",
+            "8 delete 0",
+            "end 8",
+        ],
+    );
+    let before = [Some((1, 10, true)), Some((2, 10, true)), Some((3, 1, false))];
+    assert_eq!(places(&session(&records[..4])), before);
+}
+
+/// Controls 6 and 8 go by the reference price in force, as for an order.
+#[test]
+fn quote_after_a_new_reference() {
+    check(
+        &[
+            start(),
+            day(BUY, 10, 101_400),
+            day(SELL, 10, 101_400),
+            quote(11_200, 899_900),
+            auction(OPENING),
+            quote(11_200, 900_000),
+            quote(11_300, 900_000),
+        ],
+        &[
+            "1 start 0",
+            "2 order 0 1",
+            "3 order 0 2",
+            "4 quote 0 3 4",
+            "5 auction 0 1 101400 10 1",
+            "trade 1 2 10",
+            "6 quote 6 0 0",
+            "7 quote 0 5 6",
+            "end 7",
+        ],
+    );
+}
+
+/// With 999,998 numbers given a quote takes the last two; with 999,999 it is refused, and an order
+/// takes the last one.
+#[test]
+fn last_numbers_of_quotes() {
+    let mut file = start();
+    for _ in 0..499_999 {
+        file.extend(quote(99_800, 100_200));
+    }
+    let (two, one) = (quote(99_800, 100_200), day(BUY, 1, 99_000));
+    let lines = run(&[&file[..], &two, &two, &one, &delete(1_000_000, 7), &two].concat());
+    assert!(lines.ends_with(
+        "\n500001 quote 0 999999 1000000\n500002 quote 9 0 0\n500003 order 9 0\n\
+         500004 delete 0\n500005 quote 9 0 0\nend 500005\n"
+    ));
+    let lines = run(&[&file[..], &one, &two, &one, &two, &one].concat());
+    assert!(lines.ends_with(
+        "\n500001 order 0 999999\n500002 quote 9 0 0\n500003 order 0 1000000\n\
+         500004 quote 9 0 0\n500005 order 9 0\nend 500005\n"
+    ));
+}
+
+/// The calls that change nothing read quote sides as orders.
+#[test]
+fn quote_sides_ranked() {
+    let session = session(&[
+        start(),
+        quote(99_800, 100_200),
+        day(BUY, 10, 99_800),
+        quote_of(8, (10, 99_900), (10, 100_100)),
+        quote(99_800, 100_100),
+    ]);
+    assert_eq!(ranked(&session, BUY, OPENING), Ok(vec![4, 3, 6]));
+    assert_eq!(ranked(&session, SELL, CLOSING), Ok(vec![5, 7]));
+    assert_eq!(theoretical(&session, OPENING), Ok([2, 0, 0, 0]));
+    // A look prints them, too.
+    let file = [start(), quote(99_800, 100_200)].concat();
+    assert!(looks(&file).contains("\nranked 1 1 0 1 1\n"));
+    assert!(looks(&file).contains("\nranked 2 2 0 1 2\n"));
+}
+
+#[test]
+fn write_a_quote() {
+    let (mut written, fields) = (Vec::new(), [7, 50, 100_200, 258, 100_400]);
+    assert_eq!(write(&Record::Quote(fields), &mut written), Ok(()));
+    assert_eq!(written, quote_of(7, (50, 100_200), (258, 100_400)));
+    assert_eq!(write(&Record::Quote([7, 50, 0, 258, 100_400]), &mut written), Err(1));
+    assert_eq!(written.len(), 22);
 }
