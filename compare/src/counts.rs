@@ -3,7 +3,7 @@
 
 use crate::records::*;
 use std::cmp::min;
-use std::collections::BTreeMap;
+use std::collections::{BTreeMap, BTreeSet};
 
 /// What has to come up, by word.
 pub type Rules = [(&'static str, &'static [&'static str])];
@@ -17,23 +17,42 @@ pub struct Seen<'a> {
 
 /// Answers by word, outcomes, faults, and the rules of "The price". Refusal 12 cannot come up: the
 /// programs lend every auction a list that is long enough.
+/// Of K2: the side that a quote is refused for, and by an ask before a later check on the bid; what
+/// a quote overwrites, and beside what; free places and sides left where there are just two for it,
+/// or fewer; that the old quote stays; what becomes of sides, and who trades with whom.
 pub const RULES: &Rules = &[
     ("start", &["0", "1", "3"]),
     ("order", &["0", "1", "2", "4", "5", "6", "7", "8", "9", "10"]),
     ("delete", &["0", "1", "2", "11"]),
     ("auction", &["0", "1", "2", "4"]),
+    ("quote", &["0", "1", "13", "2", "4", "5", "6", "7", "8", "9", "10"]),
+    ("quote, by its", &["bid 5", "bid 6", "bid 7", "bid 8", "ask 5", "ask 6", "ask 7", "ask 8"]),
+    ("ask before bid", &["5", "6", "7"]),
+    (
+        "quote over",
+        &["none", "a whole one", "a side deleted", "a side executed", "a part of a side"],
+    ),
+    ("quote beside", &["plain orders", "another quote"]),
+    ("free and left", &["0 2: 0", "1 1: 0", "2 0: 0", "0 0: 10", "0 1: 10", "1 0: 10"]),
+    ("old one stays", &["1", "13", "5", "6", "7", "8", "10", "then deleted", "then traded"]),
+    ("quote side", &["deleted", "overwritten: 11", "in the opening", "in the closing", "gone"]),
+    ("trade of", &["two orders", "two quotes", "both", "both, of one member"]),
     ("opening, outcome", &["1", "2", "3", "4"]),
     ("closing, outcome", &["1", "2"]),
     ("fault", &["unknown kind", "wrong length", "cut record", "cut header"]),
     ("price by rule", &["1 alone", "2", "3 highest", "3 lowest", "4 all equal", "4 both exceed"]),
 ];
 
-/// An accepted order, by the fields of its record, with the quantity that is left.
+/// An accepted order or quote side, by the fields of its record, with the quantity that is left.
+#[derive(Clone, Copy)]
 struct Resting {
+    member: u64,
     side: u64,
     validity: u64,
+    entered: u64,
     left: u64,
     limit: u64,
+    quoted: bool,
 }
 
 /// The rule that decides among these orders taking part.
@@ -67,24 +86,127 @@ fn deciding(orders: &[&Resting], reference: u64) -> &'static str {
     }
 }
 
-/// What a session's lines tell of it: the orders that rest, by number, and the reference price.
+/// What a session's lines tell of it: the orders that rest, by number, the terms, and the reference
+/// price in force.
 #[derive(Default)]
 struct Followed {
     resting: BTreeMap<u64, Resting>,
+    terms: [u64; 5],
     reference: u64,
+    /// Of the last auction: whether it was the opening, and what rested before it.
+    opening: bool,
+    before: BTreeMap<u64, Resting>,
+    /// By member: how a side of the quote went, and whether another quote was refused since.
+    gone: BTreeMap<u64, &'static str>,
+    stays: BTreeSet<u64>,
+    /// The numbers of overwritten sides, with their members.
+    overwritten: BTreeMap<u64, u64>,
 }
 
 impl Followed {
-    /// A record that was answered 0 and the two numbers behind it.
-    fn done(&mut self, record: &Record, told: [u64; 2], counts: &mut Counts) {
-        let [first, second, validity, left, limit] = record.values;
-        let order = Resting { side: second, validity, left, limit };
-        match record.kind {
-            START => self.reference = second,
-            ORDER => drop(self.resting.insert(told[0], order)),
-            DELETE => drop(self.resting.remove(&first)),
-            _ => self.auction(first == OPENING, told, counts),
+    /// A record with its answer and the two numbers behind it.
+    fn answered(&mut self, record: &Record, answer: &str, told: [u64; 2], counts: &mut Counts) {
+        let [first, second, third, fourth, fifth] = record.values;
+        match (record.kind, answer) {
+            (START, "0") => (self.terms, self.reference) = (record.values, second),
+            (ORDER, "0") => {
+                let (member, side, validity, limit) = (first, second, third, fifth);
+                let (entered, left, quoted) = (fourth, fourth, false);
+                let order = Resting { member, side, validity, entered, left, limit, quoted };
+                self.resting.insert(told[0], order);
+            }
+            (DELETE, "0") => self.deleted(first, counts),
+            (DELETE, "11") if self.overwritten.get(&first) == Some(&second) => {
+                counts.add("quote side", "overwritten: 11");
+            }
+            (AUCTION, "0") => self.auction(first == OPENING, told, counts),
+            (QUOTE, "0") => self.quoted(record.values, told, counts),
+            (QUOTE, _) => self.quote_refused(record.values, answer, counts),
+            _ => {}
         }
+    }
+
+    fn deleted(&mut self, number: u64, counts: &mut Counts) {
+        let Some(side) = self.resting.remove(&number).filter(|order| order.quoted) else { return };
+        counts.add("quote side", "deleted");
+        self.gone.insert(side.member, "a side deleted");
+        if self.stays.contains(&side.member) {
+            counts.add("old one stays", "then deleted");
+        }
+    }
+
+    /// The free places, and what is left of the member's quote.
+    fn room(&self, member: u64) -> (usize, Vec<u64>) {
+        let left = |(_, order): &(&u64, &Resting)| order.quoted && order.member == member;
+        let old = self.resting.iter().filter(left).map(|(number, _)| *number);
+        (PLACES as usize - self.resting.len(), old.collect())
+    }
+
+    fn quoted(&mut self, values: [u64; 5], numbers: [u64; 2], counts: &mut Counts) {
+        let [member, bid_quantity, bid_limit, ask_quantity, ask_limit] = values;
+        let (free, old) = self.room(member);
+        if free + old.len() == 2 {
+            counts.add("free and left", &format!("{free} {}: 0", old.len()));
+        }
+        let removed: Vec<Resting> = old.iter().flat_map(|n| self.resting.remove(n)).collect();
+        let over = match self.gone.remove(&member) {
+            _ if old.is_empty() => "none",
+            _ if removed.iter().any(|side| side.left < side.entered) => "a part of a side",
+            Some(how) => how,
+            None => "a whole one",
+        };
+        counts.add("quote over", over);
+        let beside = |meets: fn(&Resting, u64) -> bool| {
+            !old.is_empty() && self.resting.values().any(|order| meets(order, member))
+        };
+        if beside(|order, member| !order.quoted && order.member == member) {
+            counts.add("quote beside", "plain orders");
+        }
+        if beside(|order, _| order.quoted) {
+            counts.add("quote beside", "another quote");
+        }
+        self.stays.remove(&member);
+        self.overwritten.extend(old.iter().map(|number| (*number, member)));
+        let sides = [(BUY, bid_quantity, bid_limit), (SELL, ask_quantity, ask_limit)];
+        for (number, (side, entered, limit)) in numbers.into_iter().zip(sides) {
+            let (validity, left, quoted) = (DAY, entered, true);
+            let order = Resting { member, side, validity, entered, left, limit, quoted };
+            self.resting.insert(number, order);
+        }
+    }
+
+    fn quote_refused(&mut self, values: [u64; 5], answer: &str, counts: &mut Counts) {
+        let [member, bid_quantity, bid_limit, ..] = values;
+        let (free, old) = self.room(member);
+        if answer == "10" {
+            counts.add("free and left", &format!("{free} {}: 10", old.len()));
+        }
+        if !old.is_empty() {
+            counts.add("old one stays", answer);
+            self.stays.insert(member);
+        }
+        if ["5", "6", "7", "8"].contains(&answer) {
+            let hits = self.controls(bid_quantity, bid_limit);
+            let side = if hits.contains(&answer) { "bid" } else { "ask" };
+            counts.add("quote, by its", &format!("{side} {answer}"));
+            // Of 5 to 8 the answer is the first hit: those of the bid come later.
+            if side == "ask" && !hits.is_empty() {
+                counts.add("ask before bid", answer);
+            }
+        }
+    }
+
+    /// Those of 5 to 8 that a quantity with a limit would meet.
+    fn controls(&self, quantity: u64, limit: u64) -> Vec<&'static str> {
+        let ([step, _, factor, _, maximum], reference) = (self.terms, self.reference);
+        let collar = limit >= reference * factor || limit * factor <= reference;
+        let met = [
+            ("5", limit % step > 0),
+            ("6", collar),
+            ("7", quantity * limit >= maximum),
+            ("8", quantity * reference >= maximum),
+        ];
+        met.into_iter().filter(|(_, hit)| *hit).map(|(number, _)| number).collect()
     }
 
     /// The trades come in the lines that follow: rests that are deleted are gone before them.
@@ -99,18 +221,48 @@ impl Followed {
         if outcome == 1 {
             self.reference = price;
         }
+        (self.opening, self.before) = (opening, self.resting.clone());
         if outcome <= 2 {
             let last = if opening { AT_THE_OPENING } else { DAY };
             self.resting.retain(|_, order| order.validity > last);
         }
+        let sides = self.before.values().filter(|order| order.quoted).count();
+        if sides > 0 && !opening && outcome == 2 {
+            counts.add("quote side", "gone");
+        }
     }
 
-    fn trade(&mut self, number: u64, quantity: u64) {
-        if let Some(order) = self.resting.get_mut(&number) {
-            order.left -= min(order.left, quantity);
-            if order.left == 0 {
-                self.resting.remove(&number);
+    fn trade(&mut self, numbers: [u64; 2], quantity: u64, counts: &mut Counts) {
+        if let [Some(buy), Some(sell)] = numbers.map(|number| self.before.get(&number)) {
+            let rule = match (buy.quoted, sell.quoted) {
+                (true, true) => "two quotes",
+                (false, false) => "two orders",
+                _ if buy.member == sell.member => "both, of one member",
+                _ => "both",
+            };
+            counts.add("trade of", rule);
+            for side in [buy, sell].into_iter().filter(|order| order.quoted) {
+                let rule = if self.opening { "in the opening" } else { "in the closing" };
+                counts.add("quote side", rule);
+                if self.stays.contains(&side.member) {
+                    counts.add("old one stays", "then traded");
+                }
             }
+        }
+        for number in numbers {
+            self.executed(number, quantity);
+        }
+    }
+
+    fn executed(&mut self, number: u64, quantity: u64) {
+        let Some(order) = self.resting.get_mut(&number) else { return };
+        order.left -= min(order.left, quantity);
+        let Resting { left, member, quoted, .. } = *order;
+        if left == 0 {
+            self.resting.remove(&number);
+        }
+        if left == 0 && quoted {
+            self.gone.insert(member, "a side executed");
         }
     }
 }
@@ -138,14 +290,12 @@ impl Counts {
             let number = |at: usize| words.get(at).map_or(0, |word| word.parse().unwrap_or(0));
             match words[..] {
                 ["end", _] => {}
-                ["trade", ..] => {
-                    [1, 2].iter().for_each(|at| followed.trade(number(*at), number(3)))
-                }
+                ["trade", ..] => followed.trade([number(1), number(2)], number(3), self),
                 [_, "fault", _] => self.add("fault", fault(rest).unwrap_or("none")),
                 [_, word, answer, ..] => {
                     self.add(word, answer);
-                    if let Some(record) = records.next().filter(|_| answer == "0") {
-                        followed.done(record, [number(3), number(4)], self);
+                    if let Some(record) = records.next() {
+                        followed.answered(record, answer, [number(3), number(4)], self);
                     }
                 }
                 _ => self.add("line", line),

@@ -3,6 +3,7 @@
 
 use crate::counts::{Counts, Rules, Seen};
 use crate::records::{fault, walk, AUCTION, LOOKED_AT};
+use std::collections::BTreeSet;
 
 /// Phases, answers, outcomes, how long a queue or a front is, and how a file ends.
 pub const RULES: &Rules = &[
@@ -12,6 +13,7 @@ pub const RULES: &Rules = &[
     ("closing, outcome", &["1", "2"]),
     ("ranked", &["0", "1", "2"]),
     ("queue", &["empty", "of 1 to 99", "of 100 to 511", "of 512", "not in number order"]),
+    ("queue", &["with a quote side"]),
     ("short", &["1", "2", "12"]),
     ("front", &["whole", "cut short", "empty", "of no list", "refused"]),
     ("front, 2^64 - 1", &["whole", "cut short", "of no list", "refused"]),
@@ -28,11 +30,19 @@ struct Told<'a> {
     opening: [&'a str; 4],
     /// How many buys and how many sells rest: the closing's queues.
     resting: [usize; 2],
+    /// The numbers of quote sides, by the session's lines.
+    sides: BTreeSet<String>,
 }
 
 /// Counts what came up in a file, by the lines printed for it.
 pub fn count(counts: &mut Counts, seen: &Seen) {
     let (lines, mut told) = (String::from_utf8_lossy(seen.printed), Told::default());
+    let file = seen.file.get(..LOOKED_AT).unwrap_or(seen.file);
+    for line in String::from_utf8_lossy(&(seen.session)(file)).lines() {
+        if let [_, "quote", "0", bid, ask] = line.split(' ').collect::<Vec<_>>()[..] {
+            told.sides.extend([bid.to_string(), ask.to_string()]);
+        }
+    }
     for line in lines.lines() {
         let words: Vec<&str> = line.split(' ').collect();
         match words[..] {
@@ -102,6 +112,9 @@ impl<'a> Told<'a> {
         counts.add("queue", rule);
         if !numbers.is_sorted_by_key(|number| number.parse::<u64>().ok()) {
             counts.add("queue", "not in number order");
+        }
+        if numbers.iter().any(|number| self.sides.contains(*number)) {
+            counts.add("queue", "with a quote side");
         }
         if auction == "2" {
             self.resting[usize::from(side == "2")] = numbers.len();

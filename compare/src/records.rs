@@ -18,6 +18,9 @@ pub const START: usize = 1;
 pub const ORDER: usize = 2;
 pub const DELETE: usize = 3;
 pub const AUCTION: usize = 4;
+pub const QUOTE: usize = 5;
+/// The highest kind there is.
+pub const KINDS: usize = QUOTE;
 pub const BUY: u64 = 1;
 pub const SELL: u64 = 2;
 pub const AT_THE_OPENING: u64 = 1;
@@ -37,6 +40,11 @@ pub fn fields(kind: usize) -> &'static [(usize, u64)] {
         ORDER => &[(2, MEMBER_MAX), (1, SELL), (1, TILL_LATER), (4, QUANTITY_MAX), (4, PRICE_MAX)],
         DELETE => &[(4, NUMBER_MAX), (2, MEMBER_MAX)],
         AUCTION => &[(1, CLOSING)],
+        // K2: member, then quantity and limit of the bid and of the ask.
+        QUOTE => {
+            const LIMITED: [(usize, u64); 2] = [(4, QUANTITY_MAX), (4, PRICE_MAX)];
+            &[(2, MEMBER_MAX), LIMITED[0], LIMITED[1], LIMITED[0], LIMITED[1]]
+        }
         _ => &[],
     }
 }

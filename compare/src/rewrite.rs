@@ -2,14 +2,15 @@
 //! up to the first record that is faulty or answered 1, and byte for byte what the file has there.
 
 use crate::counts::{Counts, Rules, Seen};
-use crate::records::{fault, fields, walk, Record, FACTOR, LOOKED_AT, START};
+use crate::records::{fault, fields, walk, Record, FACTOR, LOOKED_AT, QUOTE, START};
 
 /// How a file came out, what cut it, and how it meets the bound of what `rewrite` takes of it.
 pub const RULES: &Rules = &[
     ("file", &["out whole", "cut at a fault", "cut at a field"]),
     ("fault", &["unknown kind", "wrong length", "cut record", "cut header"]),
-    ("field", &["start", "order", "delete", "auction", "no multiple"]),
+    ("field", &["start", "order", "delete", "auction", "quote", "no multiple"]),
     ("out", &["nothing of some", "one record", "more records"]),
+    ("quote out", &["bid below ask", "not below: 13"]),
     ("in", &["up to the bound", "cut between records", "cut in a record", "cut by one byte"]),
 ];
 
@@ -44,6 +45,10 @@ pub fn count(counts: &mut Counts, seen: &Seen) {
         0 => counts.add("out", "nothing of some"),
         1 => counts.add("out", "one record"),
         _ => counts.add("out", "more records"),
+    }
+    for quote in records.iter().take(written).filter(|record| record.kind == QUOTE) {
+        let below = quote.values[2] < quote.values[4];
+        counts.add("quote out", if below { "bid below ask" } else { "not below: 13" });
     }
     let bound = match seen.file.get(..LOOKED_AT + 1).map(walk) {
         None => "up to the bound",

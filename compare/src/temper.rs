@@ -42,13 +42,13 @@ struct Maker {
     factor: u64,
     threshold: u64,
     maximum: u64,
-    /// Orders so far: if none was refused, the last number given.
-    orders: u64,
+    /// The members of the orders and quote sides so far: if none was refused, by their numbers.
+    given: Vec<u64>,
 }
 
 type Temper = fn(&mut Maker);
 
-const TEMPERS: [(&str, Temper); 18] = [
+const TEMPERS: [(&str, Temper); 19] = [
     ("crossing books", crossing),
     ("ties", ties),
     ("both sides unlimited", both_unlimited),
@@ -59,6 +59,7 @@ const TEMPERS: [(&str, Temper); 18] = [
     ("reused places", reused_places),
     ("prices at the collar", collar),
     ("values at the maximum", values),
+    ("quotes", quotes),
     ("bad fields", bad_fields),
     ("wrong phases", wrong_phases),
     ("two sessions", two_sessions),
@@ -69,13 +70,13 @@ const TEMPERS: [(&str, Temper); 18] = [
     ("far over 64 KiB", far),
 ];
 /// The first so many make good files, for others to cut, to damage and to put together.
-const GOOD: u64 = 10;
+const GOOD: u64 = 11;
 
 /// The name of a seed's temperament, and its file. Seed 0 is the one that gives its last number.
 pub fn session_file(seed: u64) -> (&'static str, Vec<u8>) {
     let [step, reference, factor, threshold, maximum] = [100, 100_000, 9, 150, VALUE_MAX];
-    let (dice, file, orders) = (Dice(seed), Vec::new(), 0);
-    let mut maker = Maker { dice, file, step, reference, factor, threshold, maximum, orders };
+    let (dice, file, given) = (Dice(seed), Vec::new(), Vec::new());
+    let mut maker = Maker { dice, file, step, reference, factor, threshold, maximum, given };
     let (name, temper) = match seed {
         0 => ("the last number", last_number as Temper),
         _ => TEMPERS[(seed as usize - 1) % TEMPERS.len()],
@@ -146,9 +147,22 @@ fn fill(dice: &mut Dice, file: &mut Vec<u8>) {
     }
 }
 
-/// Members go by order numbers, so that a deletion can name the right one.
-fn member(number: u64) -> u64 {
-    1 + number % 3
+/// Few members, so that each has several orders and its quotes are overwritten.
+const MEMBERS: u64 = 3;
+/// One quote to so many orders, where orders are mixed.
+const ORDERS_TO_A_QUOTE: u64 = 12;
+
+/// What rests, by number, as far as the maker can tell: exact until something trades.
+#[derive(Default)]
+struct Rests {
+    plain: Vec<u64>,
+    sides: Vec<u64>,
+}
+
+impl Rests {
+    fn free(&self) -> u64 {
+        PLACES.saturating_sub((self.plain.len() + self.sides.len()) as u64)
+    }
 }
 
 impl Maker {
@@ -174,13 +188,30 @@ impl Maker {
         self.put(START, terms);
     }
 
+    /// How many numbers were given, if nothing was refused.
+    fn last(&self) -> u64 {
+        self.given.len() as u64
+    }
+
+    /// The member of an order by its number, so that a deletion can name the right one.
+    fn member(&self, number: u64) -> u64 {
+        let given = self.given.get(number.wrapping_sub(1) as usize);
+        given.map_or(1 + number % MEMBERS, |member| *member)
+    }
+
     fn order(&mut self, side: u64, validity: u64, quantity: u64, limit: u64) {
-        self.orders += 1;
-        self.put(ORDER, [member(self.orders), side, validity, quantity, limit]);
+        let member = self.member(self.last() + 1);
+        self.given.push(member);
+        self.put(ORDER, [member, side, validity, quantity, limit]);
+    }
+
+    fn quote(&mut self, values: [u64; 5]) {
+        self.given.extend([values[0]; 2]);
+        self.put(QUOTE, values);
     }
 
     fn delete(&mut self, number: u64) {
-        self.put(DELETE, [number, member(number), 0, 0, 0]);
+        self.put(DELETE, [number, self.member(number), 0, 0, 0]);
     }
 
     fn auction(&mut self, which: u64) {
@@ -210,12 +241,47 @@ impl Maker {
         self.dice.one_of(&[lower, higher])
     }
 
-    fn any_orders(&mut self, count: RangeInclusive<u64>, steps: u64) {
+    /// Good limits of a bid and an ask; equal where there is no room for two.
+    fn spread(&mut self, steps: u64) -> [u64; 2] {
+        let mut limits = [self.near(steps), self.near(steps)];
+        limits.sort_unstable();
+        if limits[0] == limits[1] {
+            limits[0] = (limits[0] - self.step).max(self.step);
+        }
+        limits
+    }
+
+    fn plain_orders(&mut self, count: RangeInclusive<u64>, steps: u64) {
         for _ in 0..self.dice.within(count) {
             let (side, quantity, limit) = (self.side(), self.quantity(), self.near(steps));
             let limit = if self.dice.once_in(16) { UNLIMITED } else { limit };
             let validity = self.dice.one_of(&[DAY, DAY, TILL_LATER, AT_THE_OPENING, AT_THE_CLOSE]);
             self.order(side, validity, quantity, limit);
+        }
+    }
+
+    /// K2: now and then the bid is not below the ask.
+    fn any_quotes(&mut self, count: RangeInclusive<u64>, steps: u64) {
+        for _ in 0..self.dice.within(count) {
+            let (member, [mut bid, mut ask]) = (self.dice.within(1..=MEMBERS), self.spread(steps));
+            if self.dice.once_in(16) {
+                [bid, ask] = self.dice.one_of(&[[ask, bid], [ask, ask]]);
+            }
+            let values = [member, self.quantity(), bid, self.quantity(), ask];
+            if bid < ask {
+                self.quote(values);
+            } else {
+                self.put(QUOTE, values);
+            }
+        }
+    }
+
+    fn any_orders(&mut self, count: RangeInclusive<u64>, steps: u64) {
+        for _ in 0..self.dice.within(count) {
+            match self.dice.once_in(ORDERS_TO_A_QUOTE) {
+                true => self.any_quotes(1..=1, steps),
+                false => self.plain_orders(1..=1, steps),
+            }
         }
     }
 
@@ -227,12 +293,76 @@ impl Maker {
         (self.step, self.reference, self.factor, self.threshold) = terms;
     }
 
+    /// A quote with a field out of range or a bid not below its ask; or one that the controls
+    /// refuse for the bid, for the ask, or for both, each by a check of its own.
+    fn bad_quote(&mut self) {
+        let (member, [bid, ask]) = (self.dice.within(1..=MEMBERS), self.spread(3));
+        let mut values = [member, 10, bid, 10, ask];
+        match self.dice.within(0..=9) {
+            0 => {
+                let field = self.dice.within(0..=4) as usize;
+                values[field] = self.dice.one_of(&[0, fields(QUOTE)[field].1 + 1]);
+            }
+            1 => (values[2], values[4]) = self.dice.one_of(&[(ask, bid), (ask, ask)]),
+            _ => {
+                let ends = [(2, self.reference / self.factor), (4, self.reference * self.factor)];
+                for (field, end) in self.dice.one_of(&[&ends[..1], &ends[1..], &ends]) {
+                    match self.dice.within(0..=3) {
+                        0 => values[*field] += 1,
+                        1 => values[*field] = end / self.step * self.step,
+                        2 => values[field - 1] = self.maximum.div_ceil(values[*field]),
+                        _ => values[field - 1] = self.maximum.div_ceil(self.reference),
+                    }
+                }
+            }
+        }
+        self.put(QUOTE, values);
+    }
+
+    /// A good quote over what is left of the member's; with too little room it gets no numbers.
+    fn overwrite(&mut self, rests: &mut Rests, crossing: bool) {
+        let member = self.dice.within(1..=MEMBERS);
+        let away = [0; 2].map(|_| self.step * self.dice.within(1..=3));
+        let apart = [self.reference - away[0], self.reference + away[1]];
+        let [bid, ask] = if crossing { self.spread(3) } else { apart };
+        let quantities = [0; 2].map(|_: u64| self.dice.within(1..=100));
+        let values = [member, quantities[0], bid, quantities[1], ask];
+        let left = rests.sides.iter().filter(|side| self.member(**side) == member).count() as u64;
+        if rests.free() + left < 2 {
+            return self.put(QUOTE, values);
+        }
+        rests.sides.retain(|side| self.member(*side) != member);
+        rests.sides.extend([self.last() + 1, self.last() + 2]);
+        self.quote(values);
+    }
+
+    /// A plain order of a member that quotes; in a full book it gets no number.
+    fn beside(&mut self, rests: &mut Rests, crossing: bool) {
+        let (side, quantity) = (self.side(), self.dice.within(1..=100));
+        let away = self.step * self.dice.within(4..=9);
+        let apart = [self.reference - away, self.reference + away];
+        let limit = if crossing { self.near(3) } else { apart[usize::from(side == SELL)] };
+        if rests.free() == 0 {
+            return self.put(ORDER, [1, side, TILL_LATER, quantity, limit]);
+        }
+        rests.plain.push(self.last() + 1);
+        self.order(side, TILL_LATER, quantity, limit);
+    }
+
+    fn delete_one_of(&mut self, numbers: &mut Vec<u64>) {
+        if !numbers.is_empty() {
+            let next = self.dice.within(0..=numbers.len() as u64 - 1);
+            let number = numbers.swap_remove(next as usize);
+            self.delete(number);
+        }
+    }
+
     /// Deletions of orders that may be gone, now and then by another member.
     fn any_deletions(&mut self, count: RangeInclusive<u64>) {
         for _ in 0..self.dice.within(count) {
-            let number = self.dice.within(1..=self.orders + 1);
+            let number = self.dice.within(1..=self.last() + 1);
             let by = number + u64::from(self.dice.once_in(8));
-            self.put(DELETE, [number, member(by), 0, 0, 0]);
+            self.put(DELETE, [number, self.member(by), 0, 0, 0]);
         }
     }
 
@@ -354,7 +484,7 @@ fn full_books(maker: &mut Maker) {
     let (side, steps) = (maker.side(), maker.dice.within(0..=40));
     if maker.dice.once_in(2) {
         maker.start();
-        maker.any_orders(PLACES - 1..=PLACES + 5, steps);
+        maker.plain_orders(PLACES - 1..=PLACES + 5, steps);
     } else {
         // So that 7 and 8 are met in a full book.
         maker.maximum = 1_000 * maker.reference;
@@ -370,6 +500,7 @@ fn full_books(maker: &mut Maker) {
         maker.misfits(0..=5);
         maker.any_deletions(0..=3);
         maker.any_orders(0..=8, steps);
+        maker.any_quotes(0..=3, steps);
         maker.auction(auction);
     }
     maker.misfits(0..=5);
@@ -405,6 +536,11 @@ fn collar(maker: &mut Maker) {
             let limit = maker.dice.about(end) * maker.step + u64::from(maker.dice.once_in(9));
             let (side, quantity) = (maker.side(), maker.dice.one_of(&[1, 1, 1, 5_000]));
             maker.order(side, TILL_LATER, quantity, limit);
+            if maker.dice.once_in(ORDERS_TO_A_QUOTE) {
+                let [bid, ask] = [low, high].map(|end| maker.dice.about(end) * maker.step);
+                let member = maker.dice.within(1..=MEMBERS);
+                maker.quote([member, quantity, bid, 1, ask]);
+            }
         }
         // Enough to outweigh the others.
         let price = maker.near(100);
@@ -433,9 +569,57 @@ fn values(maker: &mut Maker) {
             let quantity = maker.dice.one_of(&[quantity, fits]);
             let quantity = maker.dice.about(quantity).clamp(1, QUANTITY_MAX);
             maker.order(side, TILL_LATER, quantity, limit);
+            if maker.dice.once_in(ORDERS_TO_A_QUOTE) {
+                let (member, [bid, ask]) = (maker.dice.within(1..=MEMBERS), maker.spread(50));
+                let [one, other] =
+                    maker.dice.one_of(&[[quantity, 1], [1, quantity], [quantity; 2]]);
+                maker.quote([member, one, bid, other, ask]);
+            }
         }
         maker.auction(auction);
     }
+}
+
+/// K2: few members' quotes, overwritten again and again, with plain orders of these members in
+/// between, in a book that has room for none, for one or two more, or for all. Without trades the
+/// maker knows what rests, and so the numbers; the plain orders stay for the closing.
+fn quotes(maker: &mut Maker) {
+    maker.step = maker.dice.one_of(&[5, 100]);
+    (maker.reference, maker.factor) = (1_000 * maker.step, 9);
+    // So that 7 and 8 are met.
+    maker.maximum = 1_000 * maker.reference;
+    let (room, crossing) = (maker.dice.one_of(&[2, 3, 4, 5, 6, PLACES]), maker.dice.once_in(2));
+    let mut rests = Rests::default();
+    if maker.dice.once_in(2) {
+        // Before the start: none of these gets a number.
+        maker.any_quotes(1..=2, 3);
+        maker.bad_quote();
+        maker.given.clear();
+    }
+    maker.start();
+    // Quotes in places before the others', too.
+    for _ in 0..maker.dice.within(0..=2) {
+        maker.overwrite(&mut rests, false);
+    }
+    while rests.free() > 0 && rests.free() + rests.sides.len() as u64 > room {
+        maker.beside(&mut rests, false);
+    }
+    for auction in [OPENING, OPENING, CLOSING] {
+        for _ in 0..maker.dice.within(5..=25) {
+            match maker.dice.within(0..=9) {
+                0 => maker.beside(&mut rests, crossing),
+                1 | 2 => maker.delete_one_of(&mut rests.sides),
+                3 if room < PLACES => maker.delete_one_of(&mut rests.plain),
+                // An overwritten side, or another member's number.
+                4 => maker.any_deletions(1..=1),
+                5 => maker.bad_quote(),
+                _ => maker.overwrite(&mut rests, crossing),
+            }
+        }
+        maker.auction(auction);
+    }
+    maker.any_quotes(0..=2, 3);
+    maker.any_deletions(0..=5);
 }
 
 /// Each field of each kind bad or at an end, in any order and so in any phase.
@@ -446,6 +630,7 @@ fn bad_fields(maker: &mut Maker) {
         (ORDER, [1, BUY, DAY, 10, price]),
         (DELETE, [1, 1, 0, 0, 0]),
         (AUCTION, [OPENING, 0, 0, 0, 0]),
+        (QUOTE, [1, 10, price, 10, price + maker.step]),
     ] {
         for (field, (_, most)) in fields(kind).iter().enumerate() {
             for value in [0, 1, values[field], values[field] + 1, *most, most + 1, u64::MAX] {
@@ -471,12 +656,13 @@ fn bad_fields(maker: &mut Maker) {
 
 fn wrong_phases(maker: &mut Maker) {
     for _ in 0..maker.dice.within(10..=60) {
-        match maker.dice.within(0..=9) {
+        match maker.dice.within(0..=10) {
             0 => maker.start(),
             1 => maker.auction(OPENING),
             2 => maker.auction(CLOSING),
             3 | 4 => maker.any_deletions(1..=1),
             5 => maker.misfits(1..=1),
+            6 => maker.any_quotes(1..=1, 2),
             _ => maker.any_orders(1..=1, 2),
         }
     }
@@ -501,14 +687,15 @@ fn damaged(maker: &mut Maker) {
     }
 }
 
-/// A header that is nearly a good one: its length may be one off, or its kind one beyond.
+/// A header that is nearly a good one: its length may be one off, or its kind one beyond. Auctions
+/// twice as often: `looks` would look before a good one.
 fn bad_headers(maker: &mut Maker) {
     maker.start();
     maker.any_orders(0..=3, 5);
-    let (kind, length) = maker.dice.one_of(&[(1, 24), (2, 16), (3, 10), (4, 5)]);
+    let (kind, length) = maker.dice.one_of(&[(1, 24), (2, 16), (3, 10), (4, 5), (4, 5), (5, 22)]);
     let (kind, length) = match maker.dice.once_in(2) {
         true => (kind, maker.dice.about(length)),
-        false => (maker.dice.one_of(&[0, 5]), length),
+        false => (maker.dice.one_of(&[0, KINDS as u64 + 1]), length),
     };
     maker.file.extend((length as u16).to_le_bytes());
     maker.file.extend((kind as u16).to_le_bytes());
@@ -527,7 +714,7 @@ fn random_bytes(maker: &mut Maker) {
         } else {
             let bits = maker.dice.one_of(&[2, 8, 20, 64]);
             let values = [0; 5].map(|_: u64| maker.dice.roll() >> (64 - bits));
-            let kind = maker.dice.within(1..=4) as usize;
+            let kind = maker.dice.within(1..=KINDS as u64) as usize;
             maker.put(kind, values);
         }
     }
@@ -545,7 +732,10 @@ fn far(maker: &mut Maker) {
         maker.order(side, DAY, quantity, limit);
         // Most are deleted at once; what rests will fill the longest files' books.
         if !maker.dice.once_in(64) {
-            maker.delete(maker.orders);
+            maker.delete(maker.last());
+        }
+        if maker.dice.once_in(ORDERS_TO_A_QUOTE) {
+            maker.any_quotes(1..=1, 50);
         }
         if before <= opening && maker.file.len() > opening {
             maker.opening();
@@ -559,19 +749,24 @@ fn far(maker: &mut Maker) {
 }
 
 /// All numbers are given and the last 512 orders rest: refusal 9 comes before 10, and neither a
-/// deletion nor an auction gives a number back.
+/// deletion nor an auction gives a number back. One number is too few for a quote (K2).
 fn last_number(maker: &mut Maker) {
     maker.start();
     for number in 1..=NUMBER_MAX {
+        if number == NUMBER_MAX {
+            maker.put(QUOTE, [1, 1, maker.reference - maker.step, 1, maker.reference]);
+        }
         maker.order(BUY + number % 2, DAY, 1 + number % 7, maker.reference);
         if number <= NUMBER_MAX - PLACES {
             maker.delete(number);
         }
     }
-    maker.any_orders(2..=2, 1);
+    maker.plain_orders(2..=2, 1);
+    maker.any_quotes(2..=2, 1);
     maker.delete(NUMBER_MAX);
-    maker.any_orders(2..=2, 1);
+    maker.plain_orders(2..=2, 1);
     maker.opening();
-    maker.any_orders(2..=2, 1);
+    maker.plain_orders(2..=2, 1);
+    maker.any_quotes(2..=2, 1);
     maker.auction(CLOSING);
 }
