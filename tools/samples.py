@@ -35,6 +35,11 @@ def auction(which):
     return record(4, struct.pack("<B", which))
 
 
+def quote(bid, ask, member=7):
+    """K2: a quantity and a limit for the bid, and for the ask."""
+    return record(5, struct.pack("<HIIII", member, *bid, *ask))
+
+
 def buy(quantity, limit=UNLIMITED, **other):
     return order(BUY, quantity, limit, **other)
 
@@ -52,9 +57,12 @@ def sample(function):
     return function
 
 
-def unstored(function):
-    UNSTORED.append(function)
-    return function
+def unstored(size):
+    """One that is too long to be stored."""
+    def add(function):
+        UNSTORED.append((function, size))
+        return function
+    return add
 
 
 # The scope document's own input and sums
@@ -258,12 +266,21 @@ def refusal_8():
     return [start(), sell(10_000_000), buy(10_000_000, 50_000), buy(9_999_999, 50_000)]
 
 
-@unstored
+@unstored("26 MB")
 def refusal_9():
-    """Refusal 9: when 1,000,000 numbers have been given no order gets one, in a full book (9 goes before 10) or after a deletion."""
-    one = buy(1, 99_000)
+    """Refusal 9: one number is too few for a quote, an order takes it; when 1,000,000 have been given neither gets one, in a full book (9 goes
+    before 10) or after a deletion."""
+    one, two = buy(1, 99_000), quote((1, 99_000), (1, 101_000))
     entered = [one + delete(n) for n in range(1, 1_000_000 - 511)]
-    return [start(), *entered, one * 512, one, delete(1_000_000), one]
+    return [start(), *entered, one * 511, two, one, one, two, delete(1_000_000), one, two]
+
+
+@unstored("11 MB")
+def refusal_9_two_left():
+    """Refusal 9: a quote, the 500,000th of its member, takes the last two numbers; the next one is refused, though a side is deleted, and so is an
+    order; the sides that rest stay."""
+    one, two = buy(1, 99_000), quote((1, 99_000), (1, 101_000))
+    return [start(), two * 500_000, two, one, delete(999_999), two, one, OPENING, delete(1_000_000)]
 
 
 # 512 orders that don't trade
@@ -300,6 +317,132 @@ def first_hit():
         buy(10, 50_000),
         delete(1),
         buy(10, 50_000),
+    ]
+
+
+# Refusals of quotes (K2)
+
+# A quote that is good, and its sides with the quantity and the limit of each.
+BID, ASK = (10, 99_800), (10, 100_200)
+GOOD = quote(BID, ASK)
+
+
+@sample
+def refusal_1_quote():
+    """Refusal 1: each field of a quote out of its range, below and above where it can be, a limit of 0 too; the ends of quantity and member are good."""
+    bid, ask = (10, 1_000_000), (10, 1_000_100)
+    return [
+        # parameters that no control refuses these by
+        start(reference=1_000_000, factor=999, maximum=10**15),
+        quote(bid, ask, member=0),
+        quote((0, 1_000_000), ask), quote((10_000_001, 1_000_000), ask), quote((10, 0), ask), quote((10, 100_000_100), ask),
+        quote(bid, (0, 1_000_100)), quote(bid, (10_000_001, 1_000_100)), quote(bid, (10, 0)), quote(bid, (10, 100_000_100)),
+        quote((10_000_000, 1_100), (1, 100_000_000), member=1), quote((1, 1_100), (10_000_000, 10_000_000), member=65_535),
+    ]
+
+
+@sample
+def refusal_13():
+    """Refusal 13: a bid at its ask or above it, before the start, after it and when closed: 1 goes before it, 2, 4 and 5 behind; one step below passes."""
+    return [
+        quote((10, 100_200), (0, 100_000)), quote((10, 100_050), (10, 100_050)), GOOD,
+        start(),
+        quote((10, 100_200), (10, 100_000)), quote((10, 100_000), (10, 100_000)), quote((10, 100_051), (10, 100_050)),
+        quote((10, 100_000), (10, 100_100)),
+        OPENING, CLOSING, quote((10, 100_000), (10, 100_000)), GOOD,
+    ]
+
+
+@sample
+def refusal_2_quote():
+    """Refusal 2: a quote before the start; it took no numbers."""
+    return [GOOD, quote((10, 99_850), ASK), start(), GOOD]
+
+
+@sample
+def refusal_4_quote():
+    """Refusal 4: a quote may be entered in pre-opening and in day as a day order may, and not when closed."""
+    return [start(), GOOD, OPENING, GOOD, CLOSING, GOOD, quote((10, 99_850), ASK)]
+
+
+@sample
+def refusal_5_quote():
+    """Refusal 5: a bid's limit or an ask's that is no multiple of the step 100; the old quote stays, and its sides can be deleted."""
+    return [start(), GOOD, quote((10, 99_850), ASK), quote(BID, (10, 100_150)), quote((10, 99_801), (10, 99_899)), delete(1), delete(2)]
+
+
+@sample
+def refusal_6_quote():
+    """Refusal 6: with the reference price 90,000 and the factor 9 a bid at 10,000 or an ask at 810,000 is a hit; one step inside passes."""
+    return [start(reference=90_000), quote((10, 10_000), ASK), quote(BID, (10, 810_000)), quote((10, 10_000), (10, 810_000)),
+            quote((10, 10_100), (10, 809_900))]
+
+
+@sample
+def refusal_7_quote():
+    """Refusal 7: 2,500,000 at 400,000 reach the maximum order value by the limit alone, as a bid or as an ask; one less passes as either."""
+    return [start(), quote((2_500_000, 400_000), (10, 400_100)), quote((10, 399_900), (2_500_000, 400_000)),
+            quote((2_499_999, 400_000), (10, 400_100)), quote((10, 399_900), (2_499_999, 400_000))]
+
+
+@sample
+def refusal_8_quote():
+    """Refusal 8: 10,000,000 at the reference price reach the maximum order value, as a bid or as an ask with limits below it; one less passes on both."""
+    return [start(), quote((10_000_000, 50_000), (10, 50_100)), quote((10, 50_000), (10_000_000, 50_100)),
+            quote((9_999_999, 50_000), (9_999_999, 50_100))]
+
+
+# 510 orders of member 8 that don't trade
+ALMOST_FULL = [buy(10, 99_000, member=8)] * 255 + [sell(10, 101_000, member=8)] * 255
+
+
+@sample
+def refusal_10_quote():
+    """Refusal 10: a quote needs two places. It is refused where none is free and where one is, and passes where two are; then the book is full."""
+    return [
+        start(), *ALMOST_FULL, buy(10, 99_000), buy(10, 99_000), GOOD,
+        delete(511), GOOD, delete(512), GOOD,
+        quote(BID, ASK, member=9), buy(10, 99_000),
+    ]
+
+
+@sample
+def refusal_10_overwriting():
+    """Refusal 10 where only the old quote's places count: with one side left and none free it is refused and the side stays; with one free it passes."""
+    return [
+        start(), *ALMOST_FULL, GOOD,
+        # full; a side is deleted, and a plain order takes its place
+        delete(512), buy(10, 99_000), GOOD,
+        # the side that is left stays: it is still full
+        buy(10, 99_000),
+        # one place is free beside the side that is left
+        delete(1, member=8), GOOD,
+        # one is free, and nothing is left
+        delete(514), delete(515), buy(10, 99_000), GOOD,
+    ]
+
+
+@sample
+def first_hit_quote():
+    """The first hit answers, each check on the bid and then on the ask: where the ask meets one of 5 to 7 and the bid only a later one, it is the ask's."""
+    return [
+        start(), *FULL, OPENING,
+        # 1 and 13; 13 and 5 to 8
+        quote((0, 950_050), (10_000_000, 950_050)),
+        quote((10_000_000, 950_050), (10_000_000, 950_050)),
+        # 5 on the ask, 6 on the bid
+        quote((10_000_000, 11_100), (10_000_000, 950_050)),
+        # 6 on the ask, 7 on the bid
+        quote((10_000_000, 800_000), (10_000_000, 950_000)),
+        # 7 on the ask, 8 on the bid
+        quote((10_000_000, 50_000), (10_000_000, 800_000)),
+        # 8 on both, on the ask, and then 10
+        quote((10_000_000, 50_000), (10_000_000, 60_000)),
+        quote((10, 50_000), (10_000_000, 60_000)),
+        quote((10, 50_000), (10, 60_000)),
+        # room for two
+        delete(1), delete(512),
+        quote((10, 50_000), (10, 60_000)),
     ]
 
 
@@ -432,6 +575,100 @@ def full_book():
     return [start(), *buys, *sells, buy(1, 100_000), OPENING, delete(1), delete(512), sell(1, 100_000), CLOSING]
 
 
+# Quotes (K2)
+
+@sample
+def quote_overwritten():
+    """A new quote removes the old one's two sides and takes two new numbers; plain orders of the same member and another member's quote stay."""
+    return [
+        start(), buy(10, 99_000), GOOD, quote(BID, ASK, member=8), sell(10, 101_000),
+        quote((20, 99_900), (20, 100_100)),
+        # the old sides are gone
+        delete(2), delete(3),
+        # all others rest
+        delete(1), delete(4, member=8), delete(5, member=8), delete(6), delete(7), delete(8),
+    ]
+
+
+@sample
+def quote_full_book():
+    """A quote overwritten in a full book: the old one's two places are room enough for the new one, again and again; another member finds none."""
+    return [
+        start(), GOOD, *ALMOST_FULL,
+        quote((20, 99_700), (20, 100_300)), quote((30, 99_600), (30, 100_400)), quote(BID, ASK, member=9), buy(10, 99_000),
+        delete(1), delete(2), delete(513), delete(514), delete(515), delete(516), quote(BID, ASK, member=9),
+    ]
+
+
+@sample
+def quote_half_executed():
+    """The opening executes 30 of a bid's 100 at 100,000; the new quote removes the 70 and the whole ask, so the closing finds only its own 50."""
+    return [
+        start(), quote((100, 100_000), (100, 100_200)), sell(30, 100_000, member=8), OPENING,
+        quote((50, 100_000), (100, 100_300)), sell(200, 100_000, member=8), CLOSING,
+    ]
+
+
+@sample
+def quote_side_executed():
+    """The opening executes a whole bid, so that the ask alone is left of the quote; the new quote removes it and takes two numbers."""
+    return [
+        start(), quote((30, 100_000), (100, 100_200)), sell(30, 100_000, member=8), OPENING,
+        delete(1), quote((50, 99_900), (50, 100_300)), delete(2), buy(100, 100_300, member=8), CLOSING,
+    ]
+
+
+@sample
+def quote_side_deleted():
+    """A side is deleted by its number, by its own member alone; the other stays, is what is left of the quote, and goes when it is overwritten."""
+    return [
+        start(), GOOD, delete(1, member=8), delete(1), delete(1),
+        # the ask alone is overwritten; then the new ask is deleted
+        quote((20, 99_700), (20, 100_300)), delete(2), delete(4), delete(4),
+        # the bid alone is overwritten; then both sides are deleted
+        quote((30, 99_600), (30, 100_400)), delete(3), delete(5), delete(6), GOOD,
+    ]
+
+
+@sample
+def quote_refused():
+    """A quote of which one side is refused enters neither and takes no number: the old one stays, trades at the opening, and is overwritten after it."""
+    return [
+        start(), quote((40, 100_000), (40, 100_200)),
+        quote((50, 100_000), (50, 100_050)), quote((50, 11_100), (50, 100_300)), quote((50, 100_000), (10_000_000, 100_300)),
+        quote((50, 100_000), (50, 100_000)), quote((50, 100_000), (50, 0)),
+        sell(100, 100_000, member=8), OPENING,
+        quote((60, 100_000), (60, 100_200)), CLOSING,
+    ]
+
+
+@sample
+def quotes_cross():
+    """Two members' quotes cross at the opening: the bid of the one trades with the ask of the other; the sides rank among orders by price, then number."""
+    return [
+        start(), quote((10, 100_100), (10, 100_300)), quote((20, 99_700), (25, 100_100), member=8),
+        buy(20, 100_100, member=9), buy(5, 100_200, member=9), OPENING,
+    ]
+
+
+@sample
+def quote_own_orders():
+    """Overwriting leaves the member's own sell as it is, and the new bid trades with it as with any other's."""
+    return [start(), sell(10, 100_000), quote((20, 100_000), (20, 100_200)), quote((30, 100_000), (30, 100_100)), OPENING, delete(1), delete(4)]
+
+
+@sample
+def quote_at_the_close():
+    """A quote has validity day: it takes part in the opening, stays after it, and ends at the close, where an order till a later day stays."""
+    return [start(), GOOD, buy(10, 99_000, validity=LATER_DAY), OPENING, CLOSING, delete(1), delete(2), delete(3)]
+
+
+@sample
+def quote_rank():
+    """Of two bids at one limit the lower number trades first: a quote that is entered anew goes behind the other member's."""
+    return [start(), GOOD, quote(BID, ASK, member=8), GOOD, sell(10, 99_800, member=9), OPENING]
+
+
 # The price
 
 @sample
@@ -522,8 +759,8 @@ def cut_last_byte():
 
 @sample
 def unknown_kind():
-    """A record of kind 5 ends the walk; the good records behind it are not read."""
-    return [start(), struct.pack("<HHB", 5, 5, 1), buy(10), OPENING]
+    """A record of kind 9 ends the walk; the good records behind it are not read."""
+    return [start(), struct.pack("<HHB", 5, 9, 1), buy(10), OPENING]
 
 
 @sample
@@ -566,6 +803,24 @@ def length_272():
 def length_of_another():
     """An order that says 10 bytes, a delete's length, and has them."""
     return [start(), struct.pack("<HH", 10, 2) + buy(10)[4:10], buy(10)]
+
+
+@sample
+def too_short_quote():
+    """A quote that says 21 bytes, and has them."""
+    return [start(), struct.pack("<HH", 21, 5) + GOOD[4:-1], GOOD]
+
+
+@sample
+def too_long_quote():
+    """A quote that says 23 bytes, and has them."""
+    return [start(), struct.pack("<HH", 23, 5) + GOOD[4:] + b"\0", GOOD]
+
+
+@sample
+def cut_quote():
+    """A quote that lacks its last byte, behind one that is whole."""
+    return [start(), GOOD, GOOD[:-1]]
 
 
 @sample
@@ -615,14 +870,18 @@ Session files, what each of them shows, and what is printed for it: `NAME.sessio
 says what is right there, so a `.out` changes only when a rule does.
 
 Unless the sentence says otherwise a session has the step 100, the reference price 100,000, the factor 9, the threshold 150 and the maximum order value
-1,000,000,000,000, and its orders are day orders of member 7. Refusals are named by their number in the scope document. Refusal 12 can't come up in a
-file: the program lends every auction a list that is long enough.
+1,000,000,000,000, its orders are day orders of member 7, and its quotes are of that member, too. Refusals are named by their number in the scope document
+and, for 13, in the change request for quotes (K2). Refusal 12 can't come up in a file: the program lends every auction a list that is long enough.
 
 | file | what it shows |
 |---|---|
 """
 
-UNSTORED_ROW = " Not stored, for its 26 MB: `python3 tools/samples.py {}` prints it, and `tools/samples.sh` looks at its last lines."
+UNSTORED_ROW = " Not stored, for its {}: `python3 tools/samples.py {}` prints it, and `tools/samples.sh` looks at its last lines."
+
+
+def sentence(function):
+    return " ".join(function.__doc__.split())
 
 
 def main():
@@ -630,7 +889,7 @@ def main():
     if sys.argv[1:2] == ["--into"] and len(sys.argv) == 3:
         folder = Path(sys.argv[2])
     elif len(sys.argv) > 1:
-        made = {f.__name__: f for f in SAMPLES + UNSTORED}
+        made = {f.__name__: f for f in SAMPLES + [f for f, _ in UNSTORED]}
         if sys.argv[1] not in made:
             sys.exit(f"samples: no sample {sys.argv[1]}")
         sys.stdout.buffer.write(b"".join(made[sys.argv[1]]()))
@@ -640,9 +899,9 @@ def main():
     rows = []
     for f in SAMPLES:
         (folder / f"{f.__name__}.session").write_bytes(b"".join(f()))
-        rows.append(f"| `{f.__name__}` | {f.__doc__} |\n")
-    for f in UNSTORED:
-        rows.append(f"| `{f.__name__}` | {f.__doc__}{UNSTORED_ROW.format(f.__name__)} |\n")
+        rows.append(f"| `{f.__name__}` | {sentence(f)} |\n")
+    for f, size in UNSTORED:
+        rows.append(f"| `{f.__name__}` | {sentence(f)}{UNSTORED_ROW.format(size, f.__name__)} |\n")
     (folder / "README.md").write_text(README + "".join(rows), encoding="utf-8")
 
 

@@ -63,11 +63,20 @@ pieces 701 samples/boundaries.session | held 'boundaries in pieces' samples/boun
 # A first read that ends inside the second record's header, whatever the machine's pace.
 { dd bs=26 count=1 2>/dev/null; sleep 1; cat; } <samples/worked.session | held 'worked in two pieces' samples/worked.out || bad=1
 
-# A million numbers: made here, since it is too long to be stored.
+# A million numbers, by orders and by quotes: made here, since they are too long to be stored.
 if command -v python3 >/dev/null 2>&1; then
-    printf '%s\n' '1999489 order 0 1000000' '1999490 order 9 0' '1999491 delete 0' '1999492 order 9 0' 'end 1999492' >"$dir/stored"
-    python3 tools/samples.py refusal_9 | x86 "$program" | tail -n 5 >"$dir/printed"
-    same refusal_9 "$dir/stored" || bad=1
+    # last NAME LINE..: the last lines printed for it
+    last() {
+        name=$1
+        shift
+        printf '%s\n' "$@" >"$dir/stored"
+        python3 tools/samples.py "$name" | x86 "$program" | tail -n $# >"$dir/printed"
+        same "$name" "$dir/stored"
+    }
+    last refusal_9 '1999488 order 0 999999' '1999489 quote 9 0 0' '1999490 order 0 1000000' '1999491 order 9 0' '1999492 quote 9 0 0' \
+        '1999493 delete 0' '1999494 order 9 0' '1999495 quote 9 0 0' 'end 1999495' || bad=1
+    last refusal_9_two_left '500001 quote 0 999999 1000000' '500002 quote 9 0 0' '500003 order 9 0' '500004 delete 0' '500005 quote 9 0 0' \
+        '500006 order 9 0' '500007 auction 0 2 0 0 0' '500008 delete 0' 'end 500008' || bad=1
     # The stored files are what the generator makes.
     { mkdir "$dir/made" && python3 tools/samples.py --into "$dir/made"; } || { echo "samples: tools/samples.py makes no files"; exit 1; }
     for name in $({ ls "$dir/made" && cd samples && ls -- *.session; } | sort -u); do
@@ -82,7 +91,7 @@ if command -v python3 >/dev/null 2>&1; then
         bad=1
     done
 else
-    echo "samples: no python3 on the PATH: refusal_9 is not run, and the files are not made again"
+    echo "samples: no python3 on the PATH: refusal_9 and refusal_9_two_left are not run, and the files are not made again"
 fi
 
 [ $bad -ne 0 ] || echo "samples: $count files as stored, and rewritten"
