@@ -1,11 +1,11 @@
-// The session files of make bench, by a word: records mixed | start | full | opening | empty writes one to standard output.
-// What `full` has more than `start` is orders only.
+// The session files of make bench, by a word: records mixed | start | full | opening | quotes | overwriting | empty writes
+// one to standard output. What `full` has more than `start` is orders only; `quotes` and `overwriting` have quotes only.
 #include <stdint.h>
 #include <stdio.h>
 #include <string.h>
 
 enum { BUY = 1, SELL = 2, AT_THE_OPENING = 1, AT_THE_CLOSE = 2, OPENING = 1, CLOSING = 2 };
-enum { STEP = 100, REFERENCE = 100000, LIMITS = 512, PLACES = 512, RECORDS = 5000, MOST_RESTING = 400 };
+enum { STEP = 100, REFERENCE = 100000, LIMITS = 512, PLACES = 512, RECORDS = 5000, MOST_RESTING = 400, MAKERS = 8 };
 
 static void number(uint64_t x, int bytes)
 {
@@ -55,6 +55,16 @@ static void auction(int which)
     number(which, 1);
 }
 
+static void quote(int member, uint32_t bid_quantity, uint32_t bid, uint32_t ask_quantity, uint32_t ask)
+{
+    header(22, 5);
+    number(member, 2);
+    number(bid_quantity, 4);
+    number(bid, 4);
+    number(ask_quantity, 4);
+    number(ask, 4);
+}
+
 // A fixed generator: below(n) is 0 to n - 1.
 static uint32_t state = 2463534242;
 
@@ -80,6 +90,28 @@ static void full(void)
         int side = i % 2 == 0 ? BUY : SELL;
         order(1 + below(65535), side, 3 + below(2), 1 + below(97), limit_of(side));
     }
+}
+
+// K2: limits up to 99 steps from the reference price, the bid below it and the ask above.
+static void quote_of(int member)
+{
+    uint32_t bid = REFERENCE - STEP * (1 + below(99)), ask = REFERENCE + STEP * (1 + below(99));
+    uint32_t bid_quantity = 1 + below(97);
+    quote(member, bid_quantity, bid, 1 + below(97), ask);
+}
+
+// Each by a member of its own, so that the book is full at the end.
+static void quotes(void)
+{
+    start();
+    for (int i = 0; i < PLACES / 2; i++) quote_of(1 + 255 * i);
+}
+
+// All but the first few overwrite one.
+static void overwriting(void)
+{
+    start();
+    for (int i = 0; i < RECORDS; i++) quote_of(1 + below(MAKERS));
 }
 
 // An order that is refused: by 1, 5, 6 or 8.
@@ -135,5 +167,7 @@ int main(int words, char **word)
     else if (words == 2 && strcmp(word[1], "start") == 0) start();
     else if (words == 2 && strcmp(word[1], "full") == 0) full();
     else if (words == 2 && strcmp(word[1], "opening") == 0) full(), auction(OPENING);
+    else if (words == 2 && strcmp(word[1], "quotes") == 0) quotes();
+    else if (words == 2 && strcmp(word[1], "overwriting") == 0) overwriting();
     else return words != 2 || strcmp(word[1], "empty") != 0;
 }

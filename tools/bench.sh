@@ -80,7 +80,7 @@ compile bench/strong.c "$dir/strong"
 compile bench/plain.c "$dir/plain"
 compile bench/plain.c "$dir/sums" -DRUNNING_SUMS
 
-for file in empty mixed start full opening; do
+for file in empty mixed start full opening quotes overwriting; do
     x86 "$dir/records" "$file" >"$dir/$file" || fail "no session file $file"
     x86 target/bin/replay <"$dir/$file" >"$dir/lines" || fail "replay does not run $file"
     for program in strong plain sums; do
