@@ -1,9 +1,9 @@
--- Worked examples: lines of 01 "Session file", byte by byte.
+-- Worked examples: lines of 01 "Session file" and of 02 K2, byte by byte.
 use mathlib.Core.Path.{_≡_, refl}
 use mathlib.Core.List.{[], _∷_}
 use Rattle.lines.specs.declared.{words.Word.Word}
 use Rattle.lines.specs.Text.{digits, decimal}
-use Rattle.lines.specs.Line.{lineOf, numberedLine, doneLine, tradeLine, faultLine, endLine}
+use Rattle.lines.specs.Line.{lineOf, numberedLine, doneLine, quoteLine, tradeLine, faultLine, endLine}
 
 zero-printed : decimal 0 ≡ 48 ∷ []
 unfolding digits
@@ -22,6 +22,16 @@ order-printed = refl
 delete-printed : lineOf 3 (numberedLine Word.Delete 11 0) ≡ 51 ∷ 32 ∷ 100 ∷ 101 ∷ 108 ∷ 101 ∷ 116 ∷ 101 ∷ 32 ∷ 49 ∷ 49 ∷ 10 ∷ []
 unfolding digits
 delete-printed = refl
+
+-- 4 quote 0 2 3
+quote-printed : lineOf 4 (quoteLine 2 3) ≡ 52 ∷ 32 ∷ 113 ∷ 117 ∷ 111 ∷ 116 ∷ 101 ∷ 32 ∷ 48 ∷ 32 ∷ 50 ∷ 32 ∷ 51 ∷ 10 ∷ []
+unfolding digits
+quote-printed = refl
+
+-- 5 quote 4 0 0
+refused-quote-printed : lineOf 5 (numberedLine Word.Quote 4 0) ≡ 53 ∷ 32 ∷ 113 ∷ 117 ∷ 111 ∷ 116 ∷ 101 ∷ 32 ∷ 52 ∷ 32 ∷ 48 ∷ 32 ∷ 48 ∷ 10 ∷ []
+unfolding digits
+refused-quote-printed = refl
 
 -- trade 2 4 50
 trade-printed : tradeLine (record { buy = 2; sell = 4; quantity = 50 }) ≡ 116 ∷ 114 ∷ 97 ∷ 100 ∷ 101 ∷ 32 ∷ 50 ∷ 32 ∷ 52 ∷ 32 ∷ 53 ∷ 48 ∷ 10 ∷ []

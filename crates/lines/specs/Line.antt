@@ -1,4 +1,4 @@
--- Lines: record place from 1, word, answer number; what an order and an auction add; one line per trade; the fault and the end.
+-- Lines: record place from 1, word, answer number; what an order, a quote and an auction add; one line per trade; the fault and the end.
 use Prim.Native.Nat.{ℕ, zero, suc}
 use mathlib.Core.List.{List, [], _∷_, _++_}
 use lib.ListN.{take}
@@ -53,3 +53,7 @@ numberTold (suc n) number = number
 
 abbrev pub doneLine : Word → ℕ → Line
 doneLine word number = numberedLine word 0 (numberTold (wordNumbers word) number)
+
+-- a quote that is done is answered 0, and tells its buy's number and its sell's (02 K2)
+abbrev pub quoteLine : ℕ → ℕ → Line
+quoteLine bid ask = record { word = Word.Quote; answer = 0; first = bid; second = ask; third = 0; fourth = 0 }

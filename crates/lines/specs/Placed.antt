@@ -5,7 +5,7 @@ use mathlib.Core.List.{List, [], _∷_, _++_, append-assoc, append-nil}
 use native.Mathlib.Omega.{arith}
 use lib.ListN.{length, take}
 use Rattle.lines.specs.declared.{words.Word.Word, Line.Line}
-use Rattle.lines.specs.Text.{digit, decimal, space, newline}
+use Rattle.lines.specs.Text.{digit, decimal, space, newline, numeral}
 use Rattle.lines.specs.Line.{numbersOf, numbers, worded, answerText, numberedLine, numberTold, doneLine}
 use Rattle.lists.specs.Put.{Wrote, put-then}
 use Rattle.lines.specs.Decimal.{digits-small}
@@ -38,14 +38,20 @@ short-then old new at r word d h first = rw (digits-small 19 d h) first
 pub done-then : (old new : List ℕ) (at r : ℕ) (word : Word) (number : ℕ) → Wrote old new at r (answerText (numberedLine word 0 number)) → Wrote old new at r (answerText (doneLine word number))
 done-then old new at r word number first = subst (λ (t : List ℕ). Wrote old new at r t) (told-done word number) first
 
--- a word with an answer of one digit, and a number
-pub numbered-then : (old one two new : List ℕ) (at p q r : ℕ) (word : List ℕ) (d number : ℕ) → at ≤ length old → d < 10
-    → Wrote old one at p (short word d space) → Wrote one two p q (decimal number) → Wrote two new q r (newline ∷ [])
-    → Wrote old new at r (worded word (d ∷ number ∷ []))
-numbered-then old one two new at p q r word d number room h first second third =
+-- the last number of a line
+pub last-then : (old one new : List ℕ) (at p r number : ℕ) → at ≤ length old → Wrote old one at p (numeral number) → Wrote one new p r (newline ∷ [])
+    → Wrote old new at r (numbers (number ∷ []))
+last-then old one new at p r number room first second =
+    rw (append-nil (decimal number)) (put-then old one new at p r (numeral number) (newline ∷ []) room first second)
+
+-- a word with an answer of one digit, a number, and the numbers behind it
+pub numbered-then : (old one two new : List ℕ) (at p q r : ℕ) (word : List ℕ) (d number : ℕ) (xs : List ℕ) → at ≤ length old → d < 10
+    → Wrote old one at p (short word d space) → Wrote one two p q (decimal number) → Wrote two new q r (numbers xs)
+    → Wrote old new at r (worded word (d ∷ number ∷ xs))
+numbered-then old one two new at p q r word d number xs room h first second third =
     subst (λ (t : List ℕ). Wrote old new at r t) text
-    (put-then old two new at q r (short word d space ++ decimal number) (newline ∷ []) room
+    (put-then old two new at q r (short word d space ++ decimal number) (numbers xs) room
     (put-then old one two at p q (short word d space) (decimal number) room first second) third)
   where
-    text : short word d space ++ decimal number ++ (newline ∷ []) ≡ worded word (d ∷ number ∷ [])
-    text = rw (digits-small 19 d h, append-nil (decimal number)) (simp append-assoc)
+    text : short word d space ++ decimal number ++ numbers xs ≡ worded word (d ∷ number ∷ xs)
+    text = rw (digits-small 19 d h) (simp append-assoc)

@@ -1,4 +1,4 @@
-// The text of an answer, as the session program prints it (01 "Session file").
+// The text of an answer, as the session program prints it (01 "Session file"; 02 K2).
 ghost use mathlib.Core.Path.{_≡_};
 ghost use Rattle.lines.specs.Line.{numberedLine};
 
@@ -11,6 +11,7 @@ pub use writer::done_line;
 pub use writer::end_line;
 pub use writer::fault_line;
 pub use writer::line_of;
+pub use writer::quote_line;
 pub use writer::trade_lines;
 
 // At most: the digits of a number of 64 bits, and the letters of a word.

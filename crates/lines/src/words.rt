@@ -1,4 +1,4 @@
-// The words of lines: a kind of record has one, and as many numbers behind its answer (01 "Session file").
+// The words of lines: a kind of record has one, and as many numbers behind its answer (01 "Session file"; 02 K2).
 use crate::text::put_bytes;
 ghost use mathlib.Core.Path.{_≡_};
 ghost use mathlib.Core.List.{_∷_};
@@ -14,6 +14,7 @@ pub enum Word {
     Order,
     Delete,
     Auction,
+    Quote,
 }
 
 // A word behind a space. Each is a literal, so that it is a few stores.
@@ -26,6 +27,7 @@ pub(crate) fn put_word(out: &mut [u8], at: usize, word: Word) -> usize
         Word::Order => put_bytes(out, at, b" order"),
         Word::Delete => put_bytes(out, at, b" delete"),
         Word::Auction => put_bytes(out, at, b" auction"),
+        Word::Quote => put_bytes(out, at, b" quote"),
     }
 }
 
@@ -38,5 +40,6 @@ pub(crate) fn word_numbers(word: Word) -> usize
         Word::Order => 1,
         Word::Delete => 0,
         Word::Auction => 4,
+        Word::Quote => 2,
     }
 }

@@ -1,4 +1,4 @@
-// The lines that the session program prints, each written into a lent buffer from a place on (01 "Session file"; D3).
+// The lines that the session program prints, each written into a lent buffer from a place on (01 "Session file"; 02 K2; D3).
 use crate::Line;
 use crate::text::put_byte;
 use crate::text::put_bytes;
@@ -12,7 +12,7 @@ ghost use Prim.Native.Nat.{_+_, _*_, _≤_};
 ghost use lib.ListN.{length};
 ghost use Rattle.terms.specs.Bounds.{numbersPerTrade};
 ghost use Rattle.trades.specs.Written.{tradesRead};
-ghost use Rattle.lines.specs.Line.{numbers, answerText, lineOf, doneLine, tradeLine, tradeLines, faultLine, endLine};
+ghost use Rattle.lines.specs.Line.{numbers, answerText, lineOf, doneLine, quoteLine, tradeLine, tradeLines, faultLine, endLine};
 ghost use Rattle.lines.specs.Lengths.{numbersRoom, answerRoom, lineRoom, tradeRoom, faultRoom, endRoom};
 ghost use Rattle.lists.specs.Put.{Wrote};
 
@@ -74,6 +74,18 @@ pub fn done_line(out: &mut [u8], at: usize, place: u64, word: Word, number: u32)
         Word::Delete => put_bytes(out, p, b" delete 0\n"),
         _ => put_answer(out, p, Line::numbered(word, 0, number as u64)),
     }
+}
+
+// The line of a quote that was done, with the numbers of its buy and its sell (02 K2).
+pub fn quote_line(out: &mut [u8], at: usize, place: u64, bid: u32, ask: u32) -> usize
+    requires { ⌜ at + lineRoom ≤ length (now out) ⌝ }
+    ensures { λ r. ⌜ Wrote (now (out .entry)) (now (out .exit)) at r (lineOf place (quoteLine bid ask)) ⌝ }
+{
+    let p = put_decimal(out, at, place);
+    let q = put_bytes(out, p, b" quote 0 ");
+    let r = put_decimal(out, q, bid as u64);
+    let s = put_number(out, r, ask as u64);
+    put_byte(out, s, NEWLINE)
 }
 
 // A trade of the auction above.

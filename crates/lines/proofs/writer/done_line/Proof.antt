@@ -59,7 +59,7 @@ returns c =
     let s = place .before .before .before in
     rw (word .before .before .before .enum-told .given .1)
     (put-then _ _ _ _ _ _ (decimal (s .args .place)) (worded (wordText Word.Order) (0 ∷ s .args .number ∷ [])) (omega (arith, s .pre)) (place .put-decimal .ensures)
-    (numbered-then _ _ _ _ _ _ _ _ (wordText Word.Order) 0 (s .args .number) (omega (arith, decimal-length (s .args .place))) (omega arith)
+    (numbered-then _ _ _ _ _ _ _ _ (wordText Word.Order) 0 (s .args .number) [] (omega (arith, decimal-length (s .args .place))) (omega arith)
     (word .put-bytes .ensures) (c .before .before .before .before .before .before .put-decimal2 .ensures) (c .before .before .put-byte .ensures)))
 
 same-length-2 : tie.Need-same-length-2
