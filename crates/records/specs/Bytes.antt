@@ -13,6 +13,7 @@ kindOf (Record.Start p) = 1
 kindOf (Record.Order e) = 2
 kindOf (Record.Delete d) = 3
 kindOf (Record.Auction which) = 4
+kindOf (Record.Quote q) = 5
 
 -- its fields' numbers, in the order of their widths
 abbrev pub numbersOf : Record → List ℕ
@@ -20,6 +21,7 @@ numbersOf (Record.Start p) = p .step ∷ p .reference ∷ p .factor ∷ p .thres
 numbersOf (Record.Order e) = e .member ∷ e .side ∷ e .validity ∷ e .quantity ∷ e .limit ∷ []
 numbersOf (Record.Delete d) = d .number ∷ d .member ∷ []
 numbersOf (Record.Auction which) = which ∷ []
+numbersOf (Record.Quote q) = q .member ∷ q .bid .quantity ∷ q .bid .limit ∷ q .ask .quantity ∷ q .ask .limit ∷ []
 
 -- its length, with the header
 abbrev pub lengthOf : Record → ℕ

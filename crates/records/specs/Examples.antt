@@ -4,7 +4,7 @@ use mathlib.Core.Path.{_≡_, refl}
 use Prim.Native.Nat.{ℕ}
 use mathlib.Core.List.{List, [], _∷_, _++_}
 use Rattle.records.specs.declared.{kinds.Record.Record}
-use Rattle.records.specs.Fields.{number, isLength}
+use Rattle.records.specs.Fields.{number, isLength, inRange}
 use Rattle.records.specs.Bytes.{recordBytes, fileOf}
 use Rattle.records.specs.Walk.{Read, recordAt, walkFrom, walk}
 
@@ -46,6 +46,30 @@ delete-read = refl
 auction-read : recordAt (5 ∷ 0 ∷ 4 ∷ 0 ∷ 2 ∷ []) 0 ≡ Read.Record (Record.Auction 2) 5
 unfolding recordAt isLength number
 auction-read = refl
+
+-- a quote (02 K2): member 258, 300 bid at 99,800, 40 asked at 100,400
+abbrev quoteBytes : List ℕ
+quoteBytes =
+    0x16 ∷ 0x00 ∷ 0x05 ∷ 0x00 ∷ 0x02 ∷ 0x01 ∷ 0x2C ∷ 0x01 ∷ 0x00 ∷ 0x00 ∷ 0xD8 ∷ 0x85 ∷ 0x01 ∷ 0x00 ∷ 0x28 ∷ 0x00 ∷ 0x00 ∷ 0x00 ∷ 0x30 ∷ 0x88 ∷ 0x01 ∷ 0x00 ∷ []
+
+abbrev quoteRecord : Record
+quoteRecord =
+    Record.Quote (record { member = 258; bid = record { quantity = 300; limit = 99_800 }; ask = record { quantity = 40; limit = 100_400 } })
+
+quote-read : recordAt quoteBytes 0 ≡ Read.Record quoteRecord 22
+unfolding recordAt isLength number
+quote-read = refl
+
+quote-written : recordBytes quoteRecord ≡ quoteBytes
+unfolding recordBytes
+quote-written = refl
+
+-- a bid that is not below its ask is in range, a limit of 0 is not
+crossed-in-range : inRange (Record.Quote (record { member = 258; bid = record { quantity = 1; limit = 100_400 }; ask = record { quantity = 1; limit = 99_800 } })) ≡ true
+crossed-in-range = refl
+
+unlimited-out-of-range : inRange (Record.Quote (record { member = 258; bid = record { quantity = 1; limit = 99_800 }; ask = record { quantity = 1; limit = 0 } })) ≡ false
+unlimited-out-of-range = refl
 
 -- an empty file is good and has no records
 empty : walk [] ≡ record { records = []; faulty = false }

@@ -8,8 +8,10 @@ use Rattle.lists.specs.Sums.{sum}
 use Rattle.terms.specs.Kinds.{isNumber, isMember}
 use Rattle.terms.specs.Orders.{isEntry, isAuction}
 use Rattle.terms.specs.Parameters.{isStart}
+use Rattle.terms.specs.Quotes.{isQuote}
 use Rattle.terms.specs.declared.orders.{Entry.Entry}
 use Rattle.terms.specs.declared.parameters.{Start.Start}
+use Rattle.terms.specs.declared.quotes.{QuoteEntry.QuoteEntry}
 use Rattle.records.specs.declared.{kinds.Deletion.Deletion, kinds.Record.Record}
 
 -- the number that n bytes from a place on hold, the least byte first
@@ -32,7 +34,9 @@ widths kind =
     (cond (eqb kind 3) (4 ∷ 2 ∷ [])
     -- auction: which
     (cond (eqb kind 4) (1 ∷ [])
-    [])))
+    -- quote (02 K2): member, bid quantity, bid limit, ask quantity, ask limit
+    (cond (eqb kind 5) (2 ∷ 4 ∷ 4 ∷ 4 ∷ 4 ∷ [])
+    []))))
 
 abbrev pub layoutLength : List ℕ → ℕ
 layoutLength ws = sum (λ w. w) ws
@@ -71,6 +75,13 @@ asDeletion ns = record { number = getD ns 0 0; member = getD ns 1 0 }
 abbrev pub asAuction : List ℕ → ℕ
 asAuction ns = getD ns 0 0
 
+abbrev pub asQuote : List ℕ → QuoteEntry
+asQuote ns = record {
+  member = getD ns 0 0;
+  bid = record { quantity = getD ns 1 0; limit = getD ns 2 0 };
+  ask = record { quantity = getD ns 3 0; limit = getD ns 4 0 };
+}
+
 -- .. and from the part that holds them
 abbrev pub startFields : List ℕ → Start
 startFields part = asStart (fieldsOf (widths 1) part)
@@ -84,13 +95,17 @@ deleteFields part = asDeletion (fieldsOf (widths 3) part)
 abbrev pub auctionField : List ℕ → ℕ
 auctionField part = asAuction (fieldsOf (widths 4) part)
 
+abbrev pub quoteFields : List ℕ → QuoteEntry
+quoteFields part = asQuote (fieldsOf (widths 5) part)
+
 -- the record of a known kind
 abbrev pub recordOf : ℕ → List ℕ → Record
 recordOf kind part =
     cond (eqb kind 1) (Record.Start (startFields part))
     (cond (eqb kind 2) (Record.Order (orderFields part))
     (cond (eqb kind 3) (Record.Delete (deleteFields part))
-    (Record.Auction (auctionField part))))
+    (cond (eqb kind 4) (Record.Auction (auctionField part))
+    (Record.Quote (quoteFields part)))))
 
 -- every field of a record is in its range: the tests by which the calls answer 1 (01 "Refusals by number")
 abbrev pub inRange : Record → Bool
@@ -98,3 +113,4 @@ inRange (Record.Start p) = isStart p
 inRange (Record.Order e) = isEntry e
 inRange (Record.Delete d) = isNumber (d .number) && isMember (d .member)
 inRange (Record.Auction which) = isAuction which
+inRange (Record.Quote q) = isQuote q

@@ -21,6 +21,11 @@ headerAt bytes place =
     (cond (isCut bytes place) Header.Cut (Header.Record (recordOf (kindAt bytes place) (partAt bytes place)) (place + lengthAt bytes place)))
     Header.Bad
 
+-- a whole header at a place, and it is a kind's
+pub record Headed (kind : ℕ) (bytes : List ℕ) (place : ℕ) : Type 0 where
+  pub whole : place + headerLength ≤ length bytes
+  pub head : number bytes place 4 ≡ headOf kind
+
 -- of a file that won't grow
 abbrev pub headerRead : Header → Read
 headerRead (Header.Record r next) = Read.Record r next
@@ -70,6 +75,7 @@ module _ (bytes : List ℕ) (place : ℕ) (small : (i : ℕ) → getD bytes i 0 
 
 -- a head that is no known kind's
 pub header-bad : (bytes : List ℕ) (place : ℕ) {head : ℕ} → head ≡ number bytes place 4
-    → (head ≡ headOf 1 → ⊥) → (head ≡ headOf 2 → ⊥) → (head ≡ headOf 3 → ⊥) → (head ≡ headOf 4 → ⊥) → Header.Bad ≡ headerAt bytes place
+    → (head ≡ headOf 1 → ⊥) → (head ≡ headOf 2 → ⊥) → (head ≡ headOf 3 → ⊥) → (head ≡ headOf 4 → ⊥) → (head ≡ headOf 5 → ⊥)
+    → Header.Bad ≡ headerAt bytes place
 unfolding headerAt
-header-bad bytes place n a b c d = rw (length-other (kindAt bytes place) (drop place bytes) (lengthAt bytes place) (omega (arith, n, number-four bytes place)) a b c d)
+header-bad bytes place n a b c d e = rw (length-other (kindAt bytes place) (drop place bytes) (lengthAt bytes place) (omega (arith, n, number-four bytes place)) a b c d e)

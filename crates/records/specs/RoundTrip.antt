@@ -12,8 +12,10 @@ use borrow.Author.Tests.{le-ltb, leb-true, leb-false}
 use Rattle.lists.specs.Tests.{tests, decided, and-both}
 use Rattle.terms.specs.Kinds.{within, isStep, isPrice, isReference, isFactor, isThreshold, isMember, isQuantity, isNumber}
 use Rattle.terms.specs.Orders.{isSide, isValidity, isLimit, limitFrom}
+use Rattle.terms.specs.Quotes.{isQuoteSide}
+use Rattle.terms.specs.declared.quotes.{SideEntry.SideEntry}
 use Rattle.records.specs.declared.{kinds.Record.Record}
-use Rattle.records.specs.Fields.{headerLength, widths, layoutLength, kindLength, fieldsOf, asStart, asEntry, asDeletion, asAuction, recordOf, inRange}
+use Rattle.records.specs.Fields.{headerLength, widths, layoutLength, kindLength, fieldsOf, asStart, asEntry, asDeletion, asAuction, asQuote, recordOf, inRange}
 use Rattle.records.specs.Bytes.{kindOf, numbersOf, lengthOf, headerWidths, headerBytes, fieldBytes, recordBytes, fileOf, allInRange}
 use Rattle.records.specs.Layout.{Fit, bytes-count, fields-back, bytes-taken, bytes-back}
 use Rattle.records.specs.Lengths.{lengthBound, of-known, known-length, length-parts, length-is, length-known}
@@ -28,6 +30,7 @@ laid-out (Record.Start p) = (refl, omega arith, refl)
 laid-out (Record.Order e) = (refl, omega arith, refl)
 laid-out (Record.Delete d) = (refl, omega arith, refl)
 laid-out (Record.Auction which) = (refl, omega arith, refl)
+laid-out (Record.Quote q) = (refl, omega arith, refl)
 
 -- .. so that it has a field, and its length two bytes
 length-bounds : (r : Record) → (headerLength < lengthOf r) × (lengthOf r < lengthBound)
@@ -63,6 +66,10 @@ limit-fits : (x : ℕ) → T (isLimit (limitFrom x)) → x < 256 ^ 4
 limit-fits zero h = omega arith
 limit-fits (suc x) h = fits _ _ (suc x) 4 h tt
 
+-- a side of a quote
+side-fits : (e : SideEntry) → T (isQuoteSide e) → (e .quantity < 256 ^ 4) × (e .limit < 256 ^ 4)
+side-fits e h = let (quantity, limit) = and-both (isQuantity (e .quantity)) (isPrice (e .limit)) h in (fits _ _ _ 4 quantity tt, fits _ _ _ 4 limit tt)
+
 -- a record's numbers, where it is in range
 pub bytes-fit : (r : Record) → T (inRange r) → Fit (widths (kindOf r)) (numbersOf r)
 bytes-fit (Record.Start p) h =
@@ -76,6 +83,12 @@ bytes-fit (Record.Order e) h =
     (fits _ _ _ 2 member tt, (fits _ _ _ 1 side tt, (fits _ _ _ 1 validity tt, (fits _ _ _ 4 quantity tt, (limit-fits (e .limit) limit, tt)))))
 bytes-fit (Record.Delete d) h = let (number, member) = and-both (isNumber (d .number)) _ h in (fits _ _ _ 4 number tt, (fits _ _ _ 2 member tt, tt))
 bytes-fit (Record.Auction which) h = (fits _ _ _ 1 h tt, tt)
+bytes-fit (Record.Quote q) h =
+    let (front, ask) = and-both (isMember (q .member) && isQuoteSide (q .bid)) (isQuoteSide (q .ask)) h in
+    let (member, bid) = and-both (isMember (q .member)) (isQuoteSide (q .bid)) front in
+    let (bid-quantity, bid-limit) = side-fits (q .bid) bid in
+    let (ask-quantity, ask-limit) = side-fits (q .ask) ask in
+    (fits _ _ _ 2 member tt, (bid-quantity, (bid-limit, (ask-quantity, (ask-limit, tt)))))
 
 -- ---- what is written is read back
 
@@ -85,6 +98,7 @@ record-made (Record.Start p) part e = ap (λ (ns : List ℕ). Record.Start (asSt
 record-made (Record.Order o) part e = ap (λ (ns : List ℕ). Record.Order (asEntry ns)) e
 record-made (Record.Delete d) part e = ap (λ (ns : List ℕ). Record.Delete (asDeletion ns)) e
 record-made (Record.Auction which) part e = ap (λ (ns : List ℕ). Record.Auction (asAuction ns)) e
+record-made (Record.Quote q) part e = ap (λ (ns : List ℕ). Record.Quote (asQuote ns)) e
 
 -- .. which its bytes hold
 fields-made : (r : Record) → T (inRange r) → recordOf (kindOf r) (fieldBytes r) ≡ r
@@ -153,7 +167,7 @@ kind-made : (part : List ℕ) (kind : ℕ) → eqb (kindLength kind) 0 ≡ false
     → (kindOf (recordOf kind part) ≡ kind) × (numbersOf (recordOf kind part) ≡ fieldsOf (widths kind) part)
 kind-made part =
     of-known (λ (kind : ℕ). (kindOf (recordOf kind part) ≡ kind) × (numbersOf (recordOf kind part) ≡ fieldsOf (widths kind) part))
-    (refl, refl) (refl, refl) (refl, refl) (refl, refl)
+    (refl, refl) (refl, refl) (refl, refl) (refl, refl) (refl, refl)
 
 -- a part of bytes has bytes
 part-small : (n m : ℕ) (file : List ℕ) → ((i : ℕ) → getD file i 0 < 256) → (i : ℕ) → getD (take n (drop m file)) i 0 < 256

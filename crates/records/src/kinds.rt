@@ -5,12 +5,14 @@ use crate::numbers::eight;
 use crate::numbers::four;
 use crate::numbers::two;
 use terms::Entry;
+use terms::QuoteEntry;
+use terms::SideEntry;
 use terms::Start;
 ghost use mathlib.Core.Path.{_≡_};
 ghost use Prim.Native.Nat.{_+_, _≤_};
 ghost use lib.ListN.{length};
-ghost use Rattle.records.specs.Fields.{headerLength, startFields, orderFields, deleteFields, auctionField};
-ghost use Rattle.records.specs.Headers.{headerAt};
+ghost use Rattle.records.specs.Fields.{headerLength, startFields, orderFields, deleteFields, auctionField, quoteFields};
+ghost use Rattle.records.specs.Headers.{Headed, headerAt};
 
 // A record with whatever values its fields hold.
 pub enum Record {
@@ -18,6 +20,7 @@ pub enum Record {
     Order(Entry),
     Delete(Deletion),
     Auction(u8),
+    Quote(QuoteEntry),
 }
 
 pub struct Deletion {
@@ -37,6 +40,8 @@ impl Kind {
 
     pub const AUCTION: u16 = 4;
 
+    pub const QUOTE: u16 = 5;
+
     // Length and kind, two bytes each.
     pub const HEADER_LENGTH: usize = 4;
 
@@ -48,6 +53,8 @@ impl Kind {
 
     pub const AUCTION_LENGTH: usize = Kind::HEADER_LENGTH + AuctionPart::END;
 
+    pub const QUOTE_LENGTH: usize = Kind::HEADER_LENGTH + QuotePart::END;
+
     // Length and kind as one number of four bytes, so that a header is judged by one load and one compare.
     pub const START_HEAD: u32 = Kind::START_LENGTH as u32 + 65_536 * Kind::START as u32;
 
@@ -56,6 +63,8 @@ impl Kind {
     pub const DELETE_HEAD: u32 = Kind::DELETE_LENGTH as u32 + 65_536 * Kind::DELETE as u32;
 
     pub const AUCTION_HEAD: u32 = Kind::AUCTION_LENGTH as u32 + 65_536 * Kind::AUCTION as u32;
+
+    pub const QUOTE_HEAD: u32 = Kind::QUOTE_LENGTH as u32 + 65_536 * Kind::QUOTE as u32;
 }
 
 // Each field starts where the one before it ends.
@@ -109,6 +118,22 @@ impl AuctionPart {
     pub const END: usize = AuctionPart::WHICH + 1;
 }
 
+pub struct QuotePart;
+
+impl QuotePart {
+    pub const MEMBER: usize = 0;
+
+    pub const BID_QUANTITY: usize = QuotePart::MEMBER + 2;
+
+    pub const BID_LIMIT: usize = QuotePart::BID_QUANTITY + 4;
+
+    pub const ASK_QUANTITY: usize = QuotePart::BID_LIMIT + 4;
+
+    pub const ASK_LIMIT: usize = QuotePart::ASK_QUANTITY + 4;
+
+    pub const END: usize = QuotePart::ASK_LIMIT + 4;
+}
+
 fn start_fields(part: &[u8]) -> Start
     ensures { λ r. ⌜ r ≡ startFields (now (part .entry)) ⌝ }
 {
@@ -148,6 +173,22 @@ fn auction_field(part: &[u8]) -> u8
     byte(part, AuctionPart::WHICH)
 }
 
+// A quote's fields (02 K2).
+fn quote_fields(part: &[u8]) -> QuoteEntry
+    ensures { λ r. ⌜ r ≡ quoteFields (now (part .entry)) ⌝ }
+{
+    let member = two(part, QuotePart::MEMBER);
+    let bid = SideEntry {
+        quantity: four(part, QuotePart::BID_QUANTITY),
+        limit: four(part, QuotePart::BID_LIMIT),
+    };
+    let ask = SideEntry {
+        quantity: four(part, QuotePart::ASK_QUANTITY),
+        limit: four(part, QuotePart::ASK_LIMIT),
+    };
+    QuoteEntry { member, bid, ask }
+}
+
 // What a whole header says: a record and the place behind it, a record that isn't whole, or no known kind with its length.
 pub(crate) enum Header {
     Record(Record, usize),
@@ -155,43 +196,79 @@ pub(crate) enum Header {
     Bad,
 }
 
-// Each kind has its constant length, so that the field readers' tests vanish when compiled.
+// For each kind the record behind its header. Each has its constant length, so that the field readers' tests vanish when compiled.
+fn start_at(bytes: &[u8], place: usize) -> Header
+    requires { ⌜ Headed 1 (now bytes) place ⌝ }
+    ensures { λ r. ⌜ r ≡ headerAt (now (bytes .entry)) place ⌝ }
+{
+    if bytes.len() - place < Kind::START_LENGTH {
+        return Header::Cut;
+    }
+    let from = place + Kind::HEADER_LENGTH;
+    let next = place + Kind::START_LENGTH;
+    Header::Record(Record::Start(start_fields(&bytes[from..next])), next)
+}
+
+fn order_at(bytes: &[u8], place: usize) -> Header
+    requires { ⌜ Headed 2 (now bytes) place ⌝ }
+    ensures { λ r. ⌜ r ≡ headerAt (now (bytes .entry)) place ⌝ }
+{
+    if bytes.len() - place < Kind::ORDER_LENGTH {
+        return Header::Cut;
+    }
+    let from = place + Kind::HEADER_LENGTH;
+    let next = place + Kind::ORDER_LENGTH;
+    Header::Record(Record::Order(order_fields(&bytes[from..next])), next)
+}
+
+fn delete_at(bytes: &[u8], place: usize) -> Header
+    requires { ⌜ Headed 3 (now bytes) place ⌝ }
+    ensures { λ r. ⌜ r ≡ headerAt (now (bytes .entry)) place ⌝ }
+{
+    if bytes.len() - place < Kind::DELETE_LENGTH {
+        return Header::Cut;
+    }
+    let from = place + Kind::HEADER_LENGTH;
+    let next = place + Kind::DELETE_LENGTH;
+    Header::Record(Record::Delete(delete_fields(&bytes[from..next])), next)
+}
+
+fn auction_at(bytes: &[u8], place: usize) -> Header
+    requires { ⌜ Headed 4 (now bytes) place ⌝ }
+    ensures { λ r. ⌜ r ≡ headerAt (now (bytes .entry)) place ⌝ }
+{
+    if bytes.len() - place < Kind::AUCTION_LENGTH {
+        return Header::Cut;
+    }
+    let from = place + Kind::HEADER_LENGTH;
+    let next = place + Kind::AUCTION_LENGTH;
+    Header::Record(Record::Auction(auction_field(&bytes[from..next])), next)
+}
+
+fn quote_at(bytes: &[u8], place: usize) -> Header
+    requires { ⌜ Headed 5 (now bytes) place ⌝ }
+    ensures { λ r. ⌜ r ≡ headerAt (now (bytes .entry)) place ⌝ }
+{
+    if bytes.len() - place < Kind::QUOTE_LENGTH {
+        return Header::Cut;
+    }
+    let from = place + Kind::HEADER_LENGTH;
+    let next = place + Kind::QUOTE_LENGTH;
+    Header::Record(Record::Quote(quote_fields(&bytes[from..next])), next)
+}
+
+// Which kind's header it is.
 pub(crate) fn header_at(bytes: &[u8], place: usize) -> Header
     requires { ⌜ place + headerLength ≤ length (now bytes) ⌝ }
     ensures { λ r. ⌜ r ≡ headerAt (now (bytes .entry)) place ⌝ }
 {
-    let left = bytes.len() - place;
-    let from = place + Kind::HEADER_LENGTH;
     let head = four(bytes, place);
     match head {
-        Kind::START_HEAD => {
-            if left < Kind::START_LENGTH {
-                return Header::Cut;
-            }
-            let next = place + Kind::START_LENGTH;
-            Header::Record(Record::Start(start_fields(&bytes[from..next])), next)
-        }
-        Kind::ORDER_HEAD => {
-            if left < Kind::ORDER_LENGTH {
-                return Header::Cut;
-            }
-            let next = place + Kind::ORDER_LENGTH;
-            Header::Record(Record::Order(order_fields(&bytes[from..next])), next)
-        }
-        Kind::DELETE_HEAD => {
-            if left < Kind::DELETE_LENGTH {
-                return Header::Cut;
-            }
-            let next = place + Kind::DELETE_LENGTH;
-            Header::Record(Record::Delete(delete_fields(&bytes[from..next])), next)
-        }
-        Kind::AUCTION_HEAD => {
-            if left < Kind::AUCTION_LENGTH {
-                return Header::Cut;
-            }
-            let next = place + Kind::AUCTION_LENGTH;
-            Header::Record(Record::Auction(auction_field(&bytes[from..next])), next)
-        }
+        Kind::START_HEAD => start_at(bytes, place),
+        Kind::ORDER_HEAD => order_at(bytes, place),
+        Kind::DELETE_HEAD => delete_at(bytes, place),
+        Kind::AUCTION_HEAD => auction_at(bytes, place),
+        Kind::QUOTE_HEAD => quote_at(bytes, place),
         _ => Header::Bad,
     }
 }

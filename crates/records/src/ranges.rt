@@ -13,12 +13,16 @@ use terms::Order;
 use terms::OrderMade;
 use terms::Parameters;
 use terms::ParametersMade;
+use terms::Quote;
+use terms::QuoteEntry;
+use terms::QuoteMade;
 use terms::Start;
 ghost use mathlib.Core.Path.{_≡_};
 ghost use mathlib.Core.Bool.{_&&_};
 ghost use Rattle.terms.specs.Kinds.{isNumber, isMember};
 ghost use Rattle.terms.specs.Orders.{isEntry, isAuction};
 ghost use Rattle.terms.specs.Parameters.{isStart};
+ghost use Rattle.terms.specs.Quotes.{isQuote};
 ghost use Rattle.records.specs.Fields.{inRange};
 
 fn start_in_range(start: Start) -> bool
@@ -60,6 +64,16 @@ fn auction_in_range(which: u8) -> bool
     true
 }
 
+// A bid that is not below its ask is in range: the call refuses it by 13 (02 K2).
+fn quote_in_range(entry: QuoteEntry) -> bool
+    ensures { λ r. ⌜ r ≡ isQuote entry ⌝ }
+{
+    let QuoteMade::Good(_) = Quote::new(entry) else {
+        return false;
+    };
+    true
+}
+
 // Every field of a record is in its range.
 pub fn in_range(record: Record) -> bool
     ensures { λ r. ⌜ r ≡ inRange «record» ⌝ }
@@ -69,5 +83,6 @@ pub fn in_range(record: Record) -> bool
         Record::Order(entry) => order_in_range(entry),
         Record::Delete(deletion) => delete_in_range(deletion),
         Record::Auction(which) => auction_in_range(which),
+        Record::Quote(entry) => quote_in_range(entry),
     }
 }

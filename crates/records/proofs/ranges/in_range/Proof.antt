@@ -26,6 +26,12 @@ enum-known-record-4 c = search needs
 auction-in-range-requires : tie.Need-auction-in-range-requires
 auction-in-range-requires c κs = search needs
 
+enum-known-record-5 : tie.Need-enum-known-record-5
+enum-known-record-5 c = search needs
+
+quote-in-range-requires : tie.Need-quote-in-range-requires
+quote-in-range-requires c κs = search needs
+
 returns : tie.Need-returns
 returns c = rw (c .before .before .«record» .given .1) (c .start-in-range .ensures)
 
@@ -37,6 +43,9 @@ returns-3 c = rw (c .before .before .record3 .given .1) (c .delete-in-range .ens
 
 returns-4 : tie.Need-returns-4
 returns-4 c = rw (c .before .before .record4 .given .1) (c .auction-in-range .ensures)
+
+returns-5 : tie.Need-returns-5
+returns-5 c = rw (c .before .before .record5 .given .1) (c .quote-in-range .ensures)
 
 pub in-range-spec : {M : Type 1} → statement M
 in-range-spec =
@@ -50,7 +59,10 @@ in-range-spec =
     delete-in-range-requires
     enum-known-record-4
     auction-in-range-requires
+    enum-known-record-5
+    quote-in-range-requires
     returns
     returns-2
     returns-3
-    returns-4)
+    returns-4
+    returns-5)
