@@ -21,6 +21,7 @@ header (Record.Start p) = (refl, refl)
 header (Record.Order e) = (refl, refl)
 header (Record.Delete d) = (refl, refl)
 header (Record.Auction which) = (refl, refl)
+header (Record.Quote q) = (refl, refl)
 
 module _ (old one new : List ℕ) (at p r : ℕ) where
   -- room for a text and so many bytes more is room for these behind the text

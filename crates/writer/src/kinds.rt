@@ -8,6 +8,7 @@ use records::Deletion;
 use records::Kind;
 use records::Record;
 use terms::Entry;
+use terms::QuoteEntry;
 use terms::Start;
 ghost use mathlib.Core.Path.{_≡_};
 ghost use Prim.Native.Nat.{_+_, _≤_};
@@ -57,6 +58,21 @@ fn put_auction(out: &mut [u8], at: usize, which: u8) -> usize
     put_byte(out, p, which)
 }
 
+// A quote (02 K2).
+fn put_quote(out: &mut [u8], at: usize, entry: QuoteEntry) -> usize
+    requires { ⌜ at + kindLength 5 ≤ length (now out) ⌝ }
+    ensures { λ r. ⌜ Wrote (now (out .entry)) (now (out .exit)) at r (recordBytes (Record.Quote entry)) ⌝ }
+{
+    let bid = entry.bid;
+    let ask = entry.ask;
+    let p = put_four(out, at, Kind::QUOTE_HEAD);
+    let q = put_two(out, p, entry.member);
+    let r = put_four(out, q, bid.quantity);
+    let s = put_four(out, r, bid.limit);
+    let t = put_four(out, s, ask.quantity);
+    put_four(out, t, ask.limit)
+}
+
 // How many bytes a record has, with its header.
 pub(crate) fn length_of(record: Record) -> usize
     ensures { λ r. ⌜ r ≡ lengthOf «record» ⌝ }
@@ -66,6 +82,7 @@ pub(crate) fn length_of(record: Record) -> usize
         Record::Order(_) => Kind::ORDER_LENGTH,
         Record::Delete(_) => Kind::DELETE_LENGTH,
         Record::Auction(_) => Kind::AUCTION_LENGTH,
+        Record::Quote(_) => Kind::QUOTE_LENGTH,
     }
 }
 
@@ -78,5 +95,6 @@ pub(crate) fn put_record(out: &mut [u8], at: usize, record: Record) -> usize
         Record::Order(entry) => put_order(out, at, entry),
         Record::Delete(deletion) => put_delete(out, at, deletion),
         Record::Auction(which) => put_auction(out, at, which),
+        Record::Quote(entry) => put_quote(out, at, entry),
     }
 }

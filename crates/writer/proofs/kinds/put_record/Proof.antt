@@ -34,6 +34,14 @@ put-auction-requires c κs =
     let known = c .before .before in
     rw (known .record4 .given .1) at (known .before .before .before .pre)
 
+enum-known-record-5 : tie.Need-enum-known-record-5
+enum-known-record-5 c = search needs
+
+put-quote-requires : tie.Need-put-quote-requires
+put-quote-requires c κs =
+    let known = c .before .before in
+    rw (known .record5 .given .1) at (known .before .before .before .pre)
+
 same-length : tie.Need-same-length
 same-length c = search needs
 
@@ -66,6 +74,14 @@ returns-4 c =
     let put = c .before .before in
     rw (put .before .before .before .record4 .given .1) (put .put-auction .ensures)
 
+same-length-5 : tie.Need-same-length-5
+same-length-5 c = search needs
+
+returns-5 : tie.Need-returns-5
+returns-5 c =
+    let put = c .before .before in
+    rw (put .before .before .before .record5 .given .1) (put .put-quote .ensures)
+
 pub put-record-spec : {M : Type 1} → statement M
 put-record-spec =
     tie.close
@@ -78,6 +94,8 @@ put-record-spec =
     put-delete-requires
     enum-known-record-4
     put-auction-requires
+    enum-known-record-5
+    put-quote-requires
     same-length
     returns
     same-length-2
@@ -85,4 +103,6 @@ put-record-spec =
     same-length-3
     returns-3
     same-length-4
-    returns-4)
+    returns-4
+    same-length-5
+    returns-5)
