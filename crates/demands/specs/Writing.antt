@@ -11,10 +11,11 @@ use lib.Seq.{take-at, drop-at}
 use Rattle.lists.specs.Put.{put}
 use Rattle.terms.specs.declared.orders.{Entry.Entry}
 use Rattle.terms.specs.declared.parameters.{Start.Start}
+use Rattle.terms.specs.declared.quotes.{QuoteEntry.QuoteEntry}
 use Rattle.refusals.specs.Checks.{answered-number, answered-not-done}
 use Rattle.refusals.specs.Exactly.{ruleOf}
 use Rattle.session.specs.declared.{Session.Session}
-use Rattle.entries.specs.Entry.{started, entered, deleted}
+use Rattle.entries.specs.Entry.{started, entered, deleted, quoted}
 use Rattle.answers.specs.Auctions.{auctioned}
 use Rattle.records.specs.declared.{kinds.Record.Record, kinds.Deletion.Deletion}
 use Rattle.records.specs.Fields.{inRange}
@@ -23,7 +24,7 @@ use Rattle.records.specs.Walk.{walk}
 use Rattle.records.specs.RoundTrip.{file-back, good-file-back}
 use Rattle.writer.specs.Writing.{WriteLeaves, writeChecks, writeRefused, writeDone, written, writtenAll}
 use Rattle.writer.specs.InARow.{written-in-a-row}
-use Rattle.demands.specs.Answers.{ExactlyWhen, exactly, start-exactly, order-exactly, delete-exactly, auction-exactly}
+use Rattle.demands.specs.Answers.{ExactlyWhen, exactly, start-exactly, order-exactly, delete-exactly, auction-exactly, quote-exactly}
 
 -- the file that a buffer holds from its front to the place reached
 abbrev pub fileIn : WriteLeaves → List ℕ
@@ -97,6 +98,7 @@ pub record RangeOfTheCalls (s : Session) : Type 0 where
   pub of-order : (e : Entry) → (entered s e .answer ≡ 1) ↔ T (not (inRange (Record.Order e)))
   pub of-delete : (d : Deletion) → (deleted s (d .number) (d .member) .answer ≡ 1) ↔ T (not (inRange (Record.Delete d)))
   pub of-auction : (which : ℕ) (list : List ℕ) → (auctioned s which list .returned .answer ≡ 1) ↔ T (not (inRange (Record.Auction which)))
+  pub of-quote : (q : QuoteEntry) → (quoted s q .answer ≡ 1) ↔ T (not (inRange (Record.Quote q)))
 
 -- 1 is the first check, so that no earlier one can hit
 first : {A B : Type 0} → A ↔ (B × Unit {0}) → A ↔ B
@@ -108,4 +110,5 @@ range-of-the-calls s = record {
   of-order = λ e. first (order-exactly s e .refused 1 (omega arith));
   of-delete = λ d. first (delete-exactly s (d .number) (d .member) .refused 1 (omega arith));
   of-auction = λ which list. first (auction-exactly s which list .refused 1 (omega arith));
+  of-quote = λ q. first (quote-exactly s q .refused 1 (omega arith));
 }
