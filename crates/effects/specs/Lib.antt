@@ -1,4 +1,5 @@
--- Effects: what an order and a deletion change.
+-- Effects: what an order, a deletion and a quote change.
 
 -- the paper, as the code computes it
 pub mod Effects
+pub mod QuoteEffects

@@ -7,13 +7,14 @@ use mathlib.Core.List.{List}
 use native.Mathlib.Omega.{arith}
 use borrow.Author.Tests.{eq-eqb, ne-eqb, eqb-true, eqb-false, lt-ltb, le-ltb, ltb-true}
 use lib.Dec.{eqb, ltb}
-use lib.ListN.{length}
+use lib.ListN.{length, getD, List·getD-eq-default}
+use lib.Seq.{set-out}
 use Rattle.lists.specs.Sums.{counted}
 use Rattle.lists.specs.Tests.{tests, decided}
 use Rattle.terms.specs.Bounds.{places}
 use Rattle.terms.specs.Kinds.{isPlace}
-use Rattle.places.specs.Places.{wordCount, isTaken, lowestFree, total, countTaken, isFull, isShort, marked, markedAt}
-use Rattle.places.specs.Words.{bit-lt, total-same, total-most, marked-taken, marked-elsewhere, lowest-free-clear, full-none-free, count-is-taken}
+use Rattle.places.specs.Places.{bit, bitAt, isTaken, lowestFree, total, countTaken, isFull, isShort, marked, markedAt}
+use Rattle.places.specs.Words.{bit-lt, bit-zero, total-word, total-same, total-most, marked-taken, marked-elsewhere, lowest-free-clear, full-none-free, count-is-taken}
 
 -- a total in which one more is counted at one place
 total-one-more : (f g : ℕ → ℕ) (n p : ℕ) → p < n → ((k : ℕ) → k ≢ p → g k ≡ f k) → g p ≡ f p + 1 → total g n ≡ total f n + 1
@@ -25,15 +26,29 @@ total-one-more f g (suc n) p h same one =
     (λ b. let e : p ≡ n = omega tests in omega (arith, total-same f g n (λ k l. sym (same k (λ i. omega arith))), ap f e, ap g e, one))
     (decided (ltb p n))
 
-module _ (ws : List ℕ) (sized : length ws ≡ wordCount) where
-  pub marked-count : (p : ℕ) → p < places → isTaken ws p ≡ false → countTaken (marked ws p) ≡ countTaken ws + 1
-  marked-count p h free =
+-- a place whose word is not there isn't marked
+marked-beyond : (ws : List ℕ) (p : ℕ) → length ws ≤ p / 64 → marked ws p ≡ ws
+unfolding marked
+marked-beyond ws p h = set-out ws (p / 64) _ h
+
+-- .. and one that counts nothing
+total-none : (f : ℕ → ℕ) (n : ℕ) → ((k : ℕ) → f k ≡ 0) → total f n ≡ 0
+unfolding total
+total-none f zero h = refl
+total-none f (suc n) h = omega (arith, total-none f n h, h n)
+
+module _ (ws : List ℕ) where
+  pub marked-count : (p : ℕ) → p < places → p / 64 < length ws → isTaken ws p ≡ false → countTaken (marked ws p) ≡ countTaken ws + 1
+  marked-count p h word free =
       count-is-taken (marked ws p)
       ∙ total-one-more (λ k. counted (isTaken ws k) 1) (λ k. counted (isTaken (marked ws p) k) 1) places p h (λ k n. rw (marked-elsewhere ws p k word n)) (rw (marked-taken ws p word, free))
       ∙ ap (λ (n : ℕ). n + 1) (sym (count-is-taken ws))
-    where
-      word : p / 64 < length ws
-      word = omega (arith, sized)
+
+  -- the places of a word that is not there are free
+  few-words : length ws ≤ 7 → countTaken ws ≤ 448
+  few-words h =
+      let gone : getD ws 7 0 ≡ 0 = List·getD-eq-default ws 0 h in
+      omega (arith, total-word ws 7, total-none (λ k. bit k (getD ws 7 0)) 64 (λ k. rw gone (bit-zero k)), total-most (bitAt ws) 448 (λ k. bit-lt _ _))
 
   -- no second place is free exactly where fewer than two are
   pub no-second-free : not (isPlace (lowestFree (markedAt ws (lowestFree ws)))) ≡ isShort ws
@@ -42,23 +57,22 @@ module _ (ws : List ℕ) (sized : length ws ≡ wordCount) where
       most : countTaken ws ≤ places
       most = total-most _ places (λ k. bit-lt _ _)
 
+      some-left : (n : ℕ) → n ≢ places → n ≤ places → eqb (n + 1) places ≡ ltb places (n + 2)
+      some-left n apart h =
+          ⊎-elim
+          (λ l. rw (lt-ltb places (n + 2) (omega tests)) (eq-eqb (n + 1) places (omega tests)))
+          (λ l. rw (le-ltb places (n + 2) (omega tests)) (ne-eqb (n + 1) places (λ e. omega tests)))
+          (decided (ltb places (n + 2)))
+
       second : isPlace (lowestFree ws) ≡ true → not (isPlace (lowestFree (marked ws (lowestFree ws)))) ≡ isShort ws
       second e =
-          let free = lowest-free-clear ws (ltb-true (lowestFree ws) places e) in
-          let one = marked-count (lowestFree ws) (ltb-true (lowestFree ws) places e) free in
-          full-none-free (marked ws (lowestFree ws)) ∙ rw one (some-left (countTaken ws) (eqb-false (countTaken ws) places (sym (full-none-free ws) ∙ rw e)) most)
-        where
-          some-left : (n : ℕ) → n ≢ places → n ≤ places → eqb (n + 1) places ≡ ltb places (n + 2)
-          some-left n apart h = ⊎-elim
-              (λ l. rw (lt-ltb places (n + 2) (omega tests)) (full (omega tests)))
-              (λ l. rw (le-ltb places (n + 2) (omega tests)) (not-full (λ e. omega tests)))
-              (decided (ltb places (n + 2)))
-            where
-              full : n + 1 ≡ places → eqb (n + 1) places ≡ true
-              full e = eq-eqb (n + 1) places e
-
-              not-full : n + 1 ≢ places → eqb (n + 1) places ≡ false
-              not-full e = ne-eqb (n + 1) places e
+          let here = ltb-true (lowestFree ws) places e in
+          ⊎-elim
+          (λ l. full-none-free (marked ws (lowestFree ws))
+          ∙ rw (marked-count (lowestFree ws) here (omega tests) (lowest-free-clear ws here)) (some-left (countTaken ws) (eqb-false (countTaken ws) places (sym (full-none-free ws) ∙ rw e)) most))
+          (λ l. let out : length ws ≤ lowestFree ws / 64 = omega tests in
+          ap (λ (x : List ℕ). not (isPlace (lowestFree x))) (marked-beyond ws (lowestFree ws) out) ∙ rw (e, le-ltb places (countTaken ws + 2) (omega (arith, few-words (omega arith)))))
+          (decided (ltb (lowestFree ws / 64) (length ws)))
 
       go : (b : Bool) → isPlace (lowestFree ws) ≡ b → not (isPlace (lowestFree (cond b (marked ws (lowestFree ws)) ws))) ≡ isShort ws
       go true e = second e

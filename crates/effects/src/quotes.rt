@@ -1,0 +1,77 @@
+// What a quote changes (02 K2).
+use book::Pair;
+use book::Values;
+use places::WORDS;
+use places::lowest_free;
+use places::mark;
+use places::unmark;
+use refusals::Phase;
+use refusals::QUOTE_NUMBERS;
+use terms::Parameters;
+use terms::Place;
+use terms::Price;
+use terms::Quote;
+use terms::QuoteEntry;
+use terms::QuoteMade;
+ghost use mathlib.Core.Path.{_≡_};
+ghost use Rattle.effects.specs.QuoteEffects.{freshPair, quoteEffect};
+
+// The last number given, where the old sides stood and the new ones stand, and these.
+pub struct QuoteChange {
+    pub given: u32,
+    pub old: Pair,
+    pub fresh: Pair,
+    pub bid: Values,
+    pub ask: Values,
+}
+
+pub enum QuoteEffect {
+    Refused(u8),
+    Done(QuoteChange),
+}
+
+// The two lowest places that are free once the old sides are gone; 512 where there are fewer.
+fn fresh_pair(taken: [u64; WORDS], old: Pair) -> Pair
+    ensures { λ r. ⌜ r ≡ freshPair taken old ⌝ }
+{
+    let mut words = taken;
+    unmark(&mut words, old.bid);
+    unmark(&mut words, old.ask);
+    let bid = lowest_free(&words);
+    mark(&mut words, bid);
+    let ask = lowest_free(&words);
+    Pair { bid, ask }
+}
+
+// Quote: refusals 1, 13, 2, 4, 5, 6, 7, 8, 9, 10, by where the sides of the member's old quote stand. The bid takes the first of two new
+// numbers and places, the ask the second.
+pub fn quote_effect(
+    phase: Phase,
+    parameters: Parameters,
+    reference: Price,
+    given: u32,
+    taken: [u64; WORDS],
+    old: Pair,
+    e: QuoteEntry,
+) -> QuoteEffect
+    ensures { λ r. ⌜ r ≡ quoteEffect phase parameters reference given taken old e ⌝ }
+{
+    let QuoteMade::Good(q) = Quote::new(e) else {
+        return QuoteEffect::Refused(1);
+    };
+    let fresh = fresh_pair(taken, old);
+    let left = Place::holds(fresh.ask);
+    let answer = refusals::quote_refusal(phase, parameters, reference, given, !left, q);
+    if answer != 0 {
+        return QuoteEffect::Refused(answer);
+    }
+    let bid = book::values_of(given + 1, true, q.bid_order());
+    let ask = book::values_of(given + QUOTE_NUMBERS, true, q.ask_order());
+    QuoteEffect::Done(QuoteChange {
+        given: given + QUOTE_NUMBERS,
+        old,
+        fresh,
+        bid,
+        ask,
+    })
+}
