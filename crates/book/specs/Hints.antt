@@ -25,12 +25,12 @@ sound-numbered legal given b sound = record {
   given-already = λ p h e. sound .each p h .rests e .given-already;
 }
 
-both : (a b c : Bool) → a && (b && c) ≡ true → (a ≡ true) × (b ≡ true) × (c ≡ true)
+pub both : (a b c : Bool) → a && (b && c) ≡ true → (a ≡ true) × (b ≡ true) × (c ≡ true)
 both true true c h = (refl, refl, h)
 both true false c h = absurd (true≢false (sym h))
 both false b c h = absurd (true≢false (sym h))
 
-never : (b : Bool) → (b ≡ true → ⊥) → b ≡ false
+pub never : (b : Bool) → (b ≡ true → ⊥) → b ≡ false
 never true h = absurd (h refl)
 never false h = refl
 

@@ -14,4 +14,5 @@ pub mod Without
 -- as the code computes it
 pub mod Groups
 pub mod Hints
+pub mod QuoteHints
 pub mod Settling

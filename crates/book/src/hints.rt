@@ -28,7 +28,7 @@ pub fn hint_all(hints: &mut [u16; HINTS], numbers: &[u32; Place::COUNT]) {
     }
 }
 
-fn wide(place: u16) -> usize
+pub fn wide(place: u16) -> usize
     ensures { λ r. ⌜ r ≡ place ⌝ }
 {
     place as usize

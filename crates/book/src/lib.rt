@@ -2,6 +2,7 @@
 // (01 "Numbers and their bounds"). A free place holds the empty value 0 in every column.
 mod columns;
 mod hints;
+mod quote_hints;
 mod quotes;
 mod settling;
 
@@ -16,6 +17,10 @@ pub use hints::hint;
 pub use hints::hint_all;
 pub use hints::place_by_hint;
 use places::WORDS;
+pub use quote_hints::QUOTE_HINTS;
+pub use quote_hints::quote_hint;
+pub use quote_hints::quote_hint_all;
+pub use quote_hints::quote_place_by_hint;
 pub use quotes::quote_place;
 pub use quotes::requote_words;
 pub use quotes::requote8;
