@@ -1,4 +1,4 @@
-// The public face: a session, its seven calls and what they return, in the words of 01. Each call refuses by its checks in their order, and its promise
+// The public face: a session, its eight calls and what they return, in the words of 01. Each call refuses by its checks in their order, and its promise
 // is one equation.
 // Auction: refusals 1, 2, 4, 12. Theoretical answer: 1, 2, 4.
 pub use answers::AuctionAnswer;
@@ -6,12 +6,14 @@ pub use answers::Auctioned;
 pub use answers::Foreseen;
 pub use answers::auction;
 pub use answers::theoretical;
-// Start: refusals 1, 3. Order: 1, 2, 4, 5, 6, 7, 8, 9, 10. Delete: 1, 2, 11.
+// Start: refusals 1, 3. Order: 1, 2, 4, 5, 6, 7, 8, 9, 10. Quote: 1, 13, 2, 4, 5, 6, 7, 8, 9, 10. Delete: 1, 2, 11.
 pub use entries::Deleted;
 pub use entries::Entered;
+pub use entries::Quoted;
 pub use entries::Started;
 pub use entries::delete;
 pub use entries::order;
+pub use entries::quote;
 pub use entries::start;
 // A session, and the fresh one.
 pub use session::Session;

@@ -66,7 +66,7 @@ module _ (phase : Phase) (p : Parameters) (reference : Price) (given : ℕ) (tak
   unfolding freshPair
   fresh-places h =
       let second = ltb-true (lowestFree (markedAt (freedWords taken old) (lowestFree (freedWords taken old)))) places
-          (not-false _ (no-second-free (freedWords taken old) ∙ h)) in
+      (not-false _ (no-second-free (freedWords taken old) ∙ h)) in
       (lowest-free-room (freedWords taken old) (λ i. omega (arith, ltb-false places (countTaken (freedWords taken old) + 2) h)), second)
 
   pub quote-out-of-range : isQuote e ≡ false → QuoteEffect.Refused 1 ≡ quoteEffect phase p reference given taken old e

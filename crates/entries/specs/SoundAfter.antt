@@ -61,7 +61,7 @@ accepted s e h =
     }
 
 -- a limit in range that is not off the step is legal
-on-step-legal : (s : Session) (w : Limit) → T (isLimit w) → T (not (offStep (s .parameters .step) w)) → T (isLegal (legalPrice s) w)
+pub on-step-legal : (s : Session) (w : Limit) → T (isLimit w) → T (not (offStep (s .parameters .step) w)) → T (isLegal (legalPrice s) w)
 on-step-legal s Unlimited h k = tt
 on-step-legal s (At p) h k = and-intro (isPrice (p .0)) _ h (go (isMultiple (s .parameters .step .0) (p .0)) k)
   where

@@ -1,0 +1,127 @@
+-- A quote as the code computes it: from where the old sides stand, the new ones put in their stead, column by column.
+use Prim.Native.Nat.{ℕ, _+_, _<_}
+use mathlib.Core.Bool.{true, false}
+use mathlib.Core.Path.{_≡_, sym, ap, subst, _∙_}
+use mathlib.Core.List.{List}
+use native.Mathlib.Omega.{arith}
+use borrow.Author.Tests.{lt-ltb}
+use Rattle.terms.specs.Bounds.{places}
+use Rattle.terms.specs.Orders.{sideNumber}
+use Rattle.terms.specs.Quotes.{quoteFrom}
+use Rattle.terms.specs.declared.orders.{Side.the-variants.Buy, Side.the-variants.Sell}
+use Rattle.terms.specs.declared.quotes.{QuoteEntry.QuoteEntry}
+use Rattle.places.specs.Places.{lowestFree, isShort, markedAt}
+use Rattle.book.specs.declared.{Book.Book, Pair.Pair}
+use Rattle.book.specs.Columns.{stored}
+use Rattle.book.specs.Quotes.{quotePlaces, withoutPair, quotePlaceIn, requotedBook}
+use Rattle.book.specs.Without.{quote-place-in, without-taken, requoted-stored}
+use Rattle.refusals.specs.Checks.{Check, firstHit, answered-refused, answered-done, answered-cases}
+use Rattle.refusals.specs.Rows.{quoteRows}
+use Rattle.refusals.specs.Exactly.{clear}
+use Rattle.effects.specs.declared.quotes.{QuoteChange.QuoteChange, QuoteEffect.QuoteEffect}
+use Rattle.effects.specs.QuoteEffects.{freedWords, freshPair, quoteChange, quoteEffect, fresh-places}
+use Rattle.session.specs.declared.{Session.Session}
+use Rattle.session.specs.State.{withBook}
+use Rattle.session.specs.Sound.{legalPrice, Sound}
+use Rattle.entries.specs.declared.{Quoted.Quoted}
+use Rattle.entries.specs.Entry.{controlReference}
+use Rattle.entries.specs.Quote.{bookWithout, quoteChecks, bidEntered, askEntered, bidPlace, bookWithBid, askPlace, quoteRefused, quoteDone, quoted}
+
+-- a session with a quote's change
+abbrev pub requotedIn : Session → QuoteChange → Session
+requotedIn s c = withBook s (c .given) (requotedBook (s .book) (c .old) (c .fresh) (c .bid) (c .ask))
+
+-- where the columns say that the old sides stand
+abbrev pub oldIn : Session → ℕ → Pair
+oldIn s member = record {
+  bid = quotePlaceIn (s .book .quoted) (s .book .member) (s .book .side) member (sideNumber Buy) 0 places;
+  ask = quotePlaceIn (s .book .quoted) (s .book .member) (s .book .side) member (sideNumber Sell) 0 places;
+}
+
+-- what a quote changes in a session
+abbrev pub quoteIn : Session → QuoteEntry → QuoteEffect
+quoteIn s e = quoteEffect (s .phase) (s .parameters) (controlReference s) (s .given) (s .book .taken) (oldIn s (e .member)) e
+
+-- what the call returns, by the effect
+abbrev pub quotedWith : Session → QuoteChange → Quoted
+quotedWith s c = record { answer = 0; bid = c .bid .number; ask = c .ask .number; session = requotedIn s c }
+
+abbrev pub quotedBy : Session → QuoteEffect → Quoted
+quotedBy s (QuoteEffect.Refused n) = quoteRefused s n
+quotedBy s (QuoteEffect.Done c) = quotedWith s c
+
+-- the columns say where they stand
+old-places : (s : Session) → Sound s → (member : ℕ) → oldIn s member ≡ quotePlaces member (s .book)
+old-places s sound member =
+    let at = quote-place-in (legalPrice s) (s .given) (s .book) (sound .book-sound) member in
+    rw (at Buy, at Sell)
+
+module _ (s : Session) (e : QuoteEntry) where
+  abbrev old : Pair
+  old = quotePlaces (e .member) (s .book)
+
+  -- the words once the old sides are gone
+  words : bookWithout s e .taken ≡ freedWords (s .book .taken) old
+  words = without-taken (s .book) old
+
+  short : isShort (bookWithout s e .taken) ≡ isShort (freedWords (s .book .taken) old)
+  short = ap isShort words
+
+  -- where two places are left, the new sides stand at them
+  pub bid-is-placed : isShort (bookWithout s e .taken) ≡ false → bidPlace s e < places
+  unfolding freshPair
+  bid-is-placed h = rw words (fresh-places (s .phase) (s .parameters) (controlReference s) (s .given) (s .book .taken) old e (sym short ∙ h) .0)
+
+  fresh-is : isShort (bookWithout s e .taken) ≡ false → freshPair (s .book .taken) old ≡ record { bid = bidPlace s e; ask = askPlace s e }
+  unfolding freshPair stored
+  fresh-is h =
+      subst (λ (ws : List ℕ). _≡_ {A = Pair} (record { bid = lowestFree ws; ask = lowestFree (markedAt ws (lowestFree ws)) }) (record { bid = bidPlace s e; ask = askPlace s e })) words
+      (rw (lt-ltb (bidPlace s e) places (bid-is-placed h)))
+
+  pub ask-is-placed : isShort (bookWithout s e .taken) ≡ false → askPlace s e < places
+  ask-is-placed h = rw (fresh-is h) at (fresh-places (s .phase) (s .parameters) (controlReference s) (s .given) (s .book .taken) old e (sym short ∙ h) .1)
+
+  -- the columns then hold what the definition stores
+  requoted-is : isShort (bookWithout s e .taken) ≡ false → quotedWith s (quoteChange (s .given) (s .book .taken) old (quoteFrom e)) ≡ quoteDone s e
+  requoted-is h =
+      ap (λ (b : Book). record { answer = 0; bid = s .given + 1; ask = s .given + 2; session = withBook s (s .given + 2) b })
+      (rw (fresh-is h) (requoted-stored (s .book) old (record { bid = bidPlace s e; ask = askPlace s e }) (bidEntered s e) (askEntered s e) (bid-is-placed h) (ask-is-placed h)))
+
+  -- by where the old sides stand
+  by-places : quotedBy s (quoteEffect (s .phase) (s .parameters) (controlReference s) (s .given) (s .book .taken) old e) ≡ quoted s e
+  unfolding quoted quoteEffect
+  by-places =
+      answered-cases checks QuoteEffect.Refused (QuoteEffect.Done (quoteChange (s .given) (s .book .taken) old (quoteFrom e))) (λ (f : QuoteEffect). quotedBy s f ≡ quoted s e)
+      (λ n h i. answered-refused (quoteChecks s e) (quoteRefused s) (quoteDone s e) (i ∙ same) h)
+      (λ i. requoted-is (clear (quoteChecks s e) tt (i ∙ same) 10) ∙ answered-done (quoteChecks s e) (quoteRefused s) (quoteDone s e) (i ∙ same))
+    where
+      checks : List Check
+      checks = quoteRows (s .phase) (s .parameters) (controlReference s) (s .given) (isShort (freedWords (s .book .taken) old)) e
+
+      same : firstHit checks ≡ firstHit (quoteChecks s e)
+      same = rw short
+
+-- what a quote does is what the call returns
+pub quoted-by : (s : Session) (e : QuoteEntry) → Sound s → quotedBy s (quoteIn s e) ≡ quoted s e
+quoted-by s e sound = rw (old-places s sound (e .member)) (by-places s e)
+
+-- .. and it stands at places
+abbrev freshOf : QuoteEffect → Pair
+freshOf (QuoteEffect.Refused n) = record { bid = 0; ask = 0 }
+freshOf (QuoteEffect.Done c) = c .fresh
+
+placed : (s : Session) (e : QuoteEntry) (before : Pair) {c : QuoteChange}
+    → quoteEffect (s .phase) (s .parameters) (controlReference s) (s .given) (s .book .taken) before e ≡ QuoteEffect.Done c → (c .fresh .bid < places) × (c .fresh .ask < places)
+unfolding quoteEffect
+placed s e before {c} =
+    answered-cases checks QuoteEffect.Refused (QuoteEffect.Done (quoteChange (s .given) (s .book .taken) before (quoteFrom e)))
+    (λ (f : QuoteEffect). f ≡ QuoteEffect.Done c → (c .fresh .bid < places) × (c .fresh .ask < places))
+    (λ n h i k. absurd (let z : _≡_ {A = ℕ} 0 1 = cc in omega arith))
+    (λ i k. let same : freshPair (s .book .taken) before ≡ c .fresh = ap freshOf k in
+    rw (← same) (fresh-places (s .phase) (s .parameters) (controlReference s) (s .given) (s .book .taken) before e (clear checks tt i 10)))
+  where
+    checks : List Check
+    checks = quoteRows (s .phase) (s .parameters) (controlReference s) (s .given) (isShort (freedWords (s .book .taken) before)) e
+
+pub quote-placed : (s : Session) (e : QuoteEntry) {c : QuoteChange} → quoteIn s e ≡ QuoteEffect.Done c → (c .fresh .bid < places) × (c .fresh .ask < places)
+quote-placed s e = placed s e (oldIn s (e .member))
