@@ -2,7 +2,7 @@
 use Prim.Native.Nat.{ℕ, _+_, _/_, _%_, _<_}
 use mathlib.Core.Bool.{Bool, true, false, not, _&&_}
 use mathlib.Core.Logic.{_≢_}
-use mathlib.Core.Path.{_≡_, sym, ap, _∙_}
+use mathlib.Core.Path.{_≡_, refl, sym, ap, subst, _∙_}
 use mathlib.Core.List.{List}
 use native.Mathlib.Omega.{arith}
 use borrow.Author.Tests.{leb-false, eqb-false, not-false, ltb-true}
@@ -51,15 +51,15 @@ deleteEffect phase given taken place number member =
     answered (deleteRows phase number member (not (isPlace place))) Effect.Refused (Effect.Done (deleteChange given taken place))
 
 -- ---- from what the code learns on the way
--- a change is at a place, where every one that is done is
-placed : (checks : List Check) (done : Change) → (0 ≡ firstHit checks → done .place < places) → {c : Change} → answered checks Effect.Refused (Effect.Done done) ≡ Effect.Done c → c .place < places
-placed checks done here {c} =
-    answered-cases checks Effect.Refused (Effect.Done done) (λ (f : Effect). f ≡ Effect.Done c → c .place < places)
+-- what holds of what is done holds of a change that is done
+changes : (checks : List Check) (done : Change) (P : Change → Type 0) → (0 ≡ firstHit checks → P done) → {c : Change} → answered checks Effect.Refused (Effect.Done done) ≡ Effect.Done c → P c
+changes checks done P holds {c} =
+    answered-cases checks Effect.Refused (Effect.Done done) (λ (f : Effect). f ≡ Effect.Done c → P c)
     (λ n h e i. absurd (let z : _≡_ {A = ℕ} 0 1 = cc in omega arith))
-    (λ e i. let same : done .place ≡ c .place = ap placeOf′ i in rw (← same) (here e)) where
-      placeOf′ : Effect → ℕ
-      placeOf′ (Effect.Refused n) = 0
-      placeOf′ (Effect.Done c) = c .place
+    (λ e i. subst P (ap (changeOr done) i) (holds e)) where
+      changeOr : Change → Effect → Change
+      changeOr d (Effect.Refused n) = d
+      changeOr d (Effect.Done c) = c
 
 -- an entry that is made an order passes check 1, and one that isn't hits it
 module _ (phase : Phase) (p : Parameters) (reference : Price) (given : ℕ) (taken : List ℕ) (e : Entry) where
@@ -68,7 +68,12 @@ module _ (phase : Phase) (p : Parameters) (reference : Price) (given : ℕ) (tak
 
   pub order-place : {c : Change} → orderEffect phase p reference given taken e ≡ Effect.Done c → c .place < places
   unfolding orderEffect
-  order-place = placed rows (orderChange (given + 1) taken (orderFrom e)) (λ h. lowest-free-room taken (eqb-false (countTaken taken) places (clear rows tt h 10)))
+  order-place = changes rows (orderChange (given + 1) taken (orderFrom e)) (λ (c : Change). c .place < places) (λ h. lowest-free-room taken (eqb-false (countTaken taken) places (clear rows tt h 10)))
+
+  -- an order is no side of a quote
+  pub order-plain : {c : Change} → orderEffect phase p reference given taken e ≡ Effect.Done c → c .values .quoted ≡ 0
+  unfolding orderEffect
+  order-plain = changes rows (orderChange (given + 1) taken (orderFrom e)) (λ (c : Change). c .values .quoted ≡ 0) (λ h. refl)
 
   pub order-out-of-range : isEntry e ≡ false → Effect.Refused 1 ≡ orderEffect phase p reference given taken e
   unfolding orderEffect
@@ -104,7 +109,11 @@ module _ (phase : Phase) (given : ℕ) (taken : List ℕ) (place number member :
 
   pub delete-place : {c : Change} → deleteEffect phase given taken place number member ≡ Effect.Done c → c .place < places
   unfolding deleteEffect
-  delete-place = placed deletions (deleteChange given taken place) found
+  delete-place = changes deletions (deleteChange given taken place) (λ (c : Change). c .place < places) found
+
+  pub delete-plain : {c : Change} → deleteEffect phase given taken place number member ≡ Effect.Done c → c .values .quoted ≡ 0
+  unfolding deleteEffect
+  delete-plain = changes deletions (deleteChange given taken place) (λ (c : Change). c .values .quoted ≡ 0) (λ h. refl)
 
   pub delete-out-of-range : isNumber number && isMember member ≡ false → Effect.Refused 1 ≡ deleteEffect phase given taken place number member
   unfolding deleteEffect

@@ -2,7 +2,7 @@
 use Prim.Native.Nat.{ℕ, _+_, _≤_, _<_}
 use mathlib.Core.Bool.{Bool, true, false, not, cond}
 use mathlib.Core.Logic.{_≢_}
-use mathlib.Core.Path.{_≡_, refl, sym, ap, _∙_}
+use mathlib.Core.Path.{_≡_, refl, sym, ap, subst, _∙_}
 use mathlib.Core.List.{List}
 use native.Mathlib.Omega.{arith}
 use borrow.Author.Tests.{ltb-true, ltb-false, not-false, le-ltb}
@@ -55,6 +55,29 @@ quoteChange given taken old q = record {
 unfoldable pub quoteEffect : Phase → Parameters → Price → ℕ → List ℕ → Pair → QuoteEntry → QuoteEffect
 quoteEffect phase p reference given taken old e =
     answered (quoteRows phase p reference given (isShort (freedWords taken old)) e) QuoteEffect.Refused (QuoteEffect.Done (quoteChange given taken old (quoteFrom e)))
+
+-- what every change of a quote has: both sides are marked as such and of one member, the bid is a buy and the ask a sell
+pub record TwoSides (c : QuoteChange) : Type 0 where
+  pub bid-marked : c .bid .quoted ≡ 1
+  pub ask-marked : c .ask .quoted ≡ 1
+  pub one-member : c .ask .member ≡ c .bid .member
+  pub buys : c .bid .side ≡ 1
+  pub sells : c .ask .side ≡ 2
+
+pub two-sides : (phase : Phase) (p : Parameters) (reference : Price) (given : ℕ) (taken : List ℕ) (old : Pair) (e : QuoteEntry) {c : QuoteChange}
+    → quoteEffect phase p reference given taken old e ≡ QuoteEffect.Done c → TwoSides c
+unfolding quoteEffect
+two-sides phase p reference given taken old e {c} =
+    answered-cases (quoteRows phase p reference given (isShort (freedWords taken old)) e) QuoteEffect.Refused (QuoteEffect.Done done) (λ (f : QuoteEffect). f ≡ QuoteEffect.Done c → TwoSides c)
+    (λ n h i k. absurd (let z : _≡_ {A = ℕ} 0 1 = cc in omega arith))
+    (λ i k. subst TwoSides (ap (changeOr done) k) (record { bid-marked = refl; ask-marked = refl; one-member = refl; buys = refl; sells = refl }))
+  where
+    done : QuoteChange
+    done = quoteChange given taken old (quoteFrom e)
+
+    changeOr : QuoteChange → QuoteEffect → QuoteChange
+    changeOr d (QuoteEffect.Refused n) = d
+    changeOr d (QuoteEffect.Done c) = c
 
 -- ---- from what the code learns on the way
 module _ (phase : Phase) (p : Parameters) (reference : Price) (given : ℕ) (taken : List ℕ) (old : Pair) (e : QuoteEntry) where

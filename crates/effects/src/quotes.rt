@@ -16,13 +16,14 @@ use terms::QuoteMade;
 ghost use mathlib.Core.Path.{_≡_};
 ghost use Rattle.effects.specs.QuoteEffects.{freshPair, quoteEffect};
 
-// The last number given, where the old sides stood and the new ones stand, and these.
+// The last number given, where the old sides stood, the new ones, and where they stand. It begins as `Change` is laid out, so that
+// where either may come both travel in registers.
 pub struct QuoteChange {
     pub given: u32,
     pub old: Pair,
-    pub fresh: Pair,
     pub bid: Values,
     pub ask: Values,
+    pub fresh: Pair,
 }
 
 pub enum QuoteEffect {
@@ -31,10 +32,10 @@ pub enum QuoteEffect {
 }
 
 // The two lowest places that are free once the old sides are gone; 512 where there are fewer.
-fn fresh_pair(taken: [u64; WORDS], old: Pair) -> Pair
-    ensures { λ r. ⌜ r ≡ freshPair taken old ⌝ }
+fn fresh_pair(taken: &[u64; WORDS], old: Pair) -> Pair
+    ensures { λ r. ⌜ r ≡ freshPair (now (taken .entry)) old ⌝ }
 {
-    let mut words = taken;
+    let mut words = *taken;
     unmark(&mut words, old.bid);
     unmark(&mut words, old.ask);
     let bid = lowest_free(&words);
@@ -50,11 +51,11 @@ pub fn quote_effect(
     parameters: Parameters,
     reference: Price,
     given: u32,
-    taken: [u64; WORDS],
+    taken: &[u64; WORDS],
     old: Pair,
     e: QuoteEntry,
 ) -> QuoteEffect
-    ensures { λ r. ⌜ r ≡ quoteEffect phase parameters reference given taken old e ⌝ }
+    ensures { λ r. ⌜ r ≡ quoteEffect phase parameters reference given (now (taken .entry)) old e ⌝ }
 {
     let QuoteMade::Good(q) = Quote::new(e) else {
         return QuoteEffect::Refused(1);
@@ -70,8 +71,8 @@ pub fn quote_effect(
     QuoteEffect::Done(QuoteChange {
         given: given + QUOTE_NUMBERS,
         old,
-        fresh,
         bid,
         ask,
+        fresh,
     })
 }

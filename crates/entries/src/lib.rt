@@ -129,7 +129,6 @@ pub fn quote(session: Session, e: QuoteEntry) -> Quoted
 {
     let phase = session.phase;
     let parameters = session.parameters;
-    let taken = session.book.taken;
     let bid = book::quote_place(
         &session.book.quoted,
         &session.book.member,
@@ -149,7 +148,7 @@ pub fn quote(session: Session, e: QuoteEntry) -> Quoted
         parameters,
         session.reference,
         session.given,
-        taken,
+        &session.book.taken,
         Pair { bid, ask },
         e,
     );
