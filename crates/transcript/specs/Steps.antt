@@ -24,17 +24,25 @@ use Rattle.answers.specs.SoundAfter.{auctioned-sound}
 use Rattle.answers.specs.Auctions.{auctionChecks, auctioned, outcomeOf, tradesNow}
 use Rattle.session.specs.State.{part}
 use Rattle.records.specs.declared.{kinds.Record.Record, kinds.Deletion.Deletion}
-use Rattle.lines.specs.Line.{lineOf, tradeLines, numberedLine, doneLine}
+use Rattle.lines.specs.Line.{lineOf, tradeLines, numberedLine, doneLine, quoteLine}
 use Rattle.lines.specs.Lengths.{lineRoom, tradeRoom, line-length, trades-room}
 use Rattle.lists.specs.Put.{Wrote, put-then}
 use Rattle.transcript.specs.declared.{Stepped.Stepped, Doing.Doing}
-use Rattle.transcript.specs.Transcript.{Step, step, stepLines, lent, orderStep, deleteStep}
+use Rattle.transcript.specs.Transcript.{Step, step, stepLines, lent, orderStep, deleteStep, quoteStep}
 use Rattle.terms.specs.declared.kinds.{Price.Price}
 use Rattle.terms.specs.declared.parameters.{Parameters.Parameters}
 use Rattle.refusals.specs.declared.phases.{Phase.Phase}
 use Rattle.effects.specs.declared.{Change.Change, Effect.Effect}
-use Rattle.effects.specs.Effects.{orderEffect, deleteEffect, order-place, delete-place}
+use Rattle.effects.specs.Effects.{orderEffect, deleteEffect, order-place, order-plain, delete-place, delete-plain}
+use Rattle.effects.specs.declared.quotes.{QuoteChange.QuoteChange, QuoteEffect.QuoteEffect}
+use Rattle.effects.specs.QuoteEffects.{quoteEffect, TwoSides, two-sides}
 use Rattle.entries.specs.Entry.{controlReference, entered, deleted}
+use Rattle.entries.specs.Quote.{quoted}
+use Rattle.entries.specs.QuoteCall.{requotedIn, oldIn, quoteIn, quotedBy, quoted-by, quote-placed}
+use Rattle.entries.specs.QuoteSound.{quoted-sound}
+use Rattle.book.specs.declared.{Pair.Pair}
+use Rattle.book.specs.Quotes.{quotePlaceIn}
+use Rattle.book.specs.QuoteHints.{OneQuoteIn, Hinted}
 use Rattle.entries.specs.Changes.{changed, orderIn, deleteIn, enteredBy, deletedBy, entered-by, deleted-by}
 use Rattle.lines.specs.declared.{words.Word.Word, Line.Line}
 
@@ -69,6 +77,7 @@ step-trades : (s : Session) (r : Record) → length (step s r .trades) ≤ maxTr
 step-trades s (Record.Start p) = omega arith
 step-trades s (Record.Order e) = omega arith
 step-trades s (Record.Delete d) = omega arith
+step-trades s (Record.Quote e) = omega arith
 step-trades s (Record.Auction which) =
     answered-cases (auctionChecks s which tradeListLength) (λ n. []) (tradesNow s (auctionFrom which)) (λ (ts : List Trade). length ts ≤ maxTrades)
     (λ n h e. omega arith) (λ e. trades-few s (auctionFrom which))
@@ -83,6 +92,7 @@ step-sound s (Record.Start p) h = started-sound s _ h
 step-sound s (Record.Order e) h = entered-sound s e h
 step-sound s (Record.Delete d) h = deleted-sound s (d .number) (d .member) h
 step-sound s (Record.Auction which) h = auctioned-sound s which lent h
+step-sound s (Record.Quote e) h = quoted-sound s e h
 
 abbrev pub orderDoing : Effect → Doing
 orderDoing (Effect.Refused n) = Doing.Refused Word.Order n
@@ -92,14 +102,29 @@ abbrev pub deleteDoing : Effect → Doing
 deleteDoing (Effect.Refused n) = Doing.Refused Word.Delete n
 deleteDoing (Effect.Done c) = Doing.Done Word.Delete c
 
-abbrev pub doingOf : Record → Phase → Parameters → Price → ℕ → List ℕ → List ℕ → List ℕ → Doing
-doingOf (Record.Start p) phase parameters reference given taken numbers members = Doing.Start p
-doingOf (Record.Order e) phase parameters reference given taken numbers members = orderDoing (orderEffect phase parameters reference given taken e)
-doingOf (Record.Delete d) phase parameters reference given taken numbers members = deleteDoing (deleteEffect phase given taken (placeIn taken numbers members (d .number) (d .member) 0 places) (d .number) (d .member))
-doingOf (Record.Auction which) phase parameters reference given taken numbers members = Doing.Auction which
+abbrev pub quoteDoing : QuoteEffect → Doing
+quoteDoing (QuoteEffect.Refused n) = Doing.Refused Word.Quote n
+quoteDoing (QuoteEffect.Done c) = Doing.Quoted c
+
+-- where the columns say that the sides of a member's quote stand
+abbrev pub oldPair : List ℕ → List ℕ → List ℕ → ℕ → Pair
+oldPair quoted members sides member = record { bid = quotePlaceIn quoted members sides member 1 0 places; ask = quotePlaceIn quoted members sides member 2 0 places }
+
+-- one side of a quote for a member at most, and those that rest are hinted at
+pub record QuotesKnown (quoted members sides bids asks : List ℕ) : Type 0 where
+  pub once : OneQuoteIn quoted members sides
+  pub bids-hinted : Hinted quoted members sides bids 1
+  pub asks-hinted : Hinted quoted members sides asks 2
+
+abbrev pub doingOf : Record → Phase → Parameters → Price → ℕ → List ℕ → List ℕ → List ℕ → List ℕ → List ℕ → Doing
+doingOf (Record.Start p) phase parameters reference given taken numbers members quoted sides = Doing.Start p
+doingOf (Record.Order e) phase parameters reference given taken numbers members quoted sides = orderDoing (orderEffect phase parameters reference given taken e)
+doingOf (Record.Delete d) phase parameters reference given taken numbers members quoted sides = deleteDoing (deleteEffect phase given taken (placeIn taken numbers members (d .number) (d .member) 0 places) (d .number) (d .member))
+doingOf (Record.Auction which) phase parameters reference given taken numbers members quoted sides = Doing.Auction which
+doingOf (Record.Quote e) phase parameters reference given taken numbers members quoted sides = quoteDoing (quoteEffect phase parameters reference given taken (oldPair quoted members sides (e .member)) e)
 
 abbrev pub doingIn : Session → Record → Doing
-doingIn s r = doingOf r (s .phase) (s .parameters) (controlReference s) (s .given) (s .book .taken) (s .book .number) (s .book .member)
+doingIn s r = doingOf r (s .phase) (s .parameters) (controlReference s) (s .given) (s .book .taken) (s .book .number) (s .book .member) (s .book .quoted) (s .book .side)
 
 -- a step without trades
 abbrev pub quiet : Session → Line → Step
@@ -108,26 +133,31 @@ quiet s l = record { session = s; line = l; trades = [] }
 -- by what it does
 abbrev pub Does : Session → Record → Doing → Type 0
 Does s r (Doing.Refused w n) = quiet s (numberedLine w n 0) ≡ step s r
-Does s r (Doing.Done w c) = (quiet (changed s c) (doneLine w (c .given)) ≡ step s r) × (c .place < places)
+Does s r (Doing.Done w c) = (quiet (changed s c) (doneLine w (c .given)) ≡ step s r) × (c .place < places) × (c .values .quoted ≡ 0)
+Does s r (Doing.Quoted c) = (quiet (requotedIn s c) (quoteLine (c .bid .number) (c .ask .number)) ≡ step s r) × ((c .fresh .bid < places) × (c .fresh .ask < places)) × TwoSides c
 Does s r (Doing.Start p) = r ≡ Record.Start p
 Does s r (Doing.Auction which) = r ≡ Record.Auction which
 
 -- what a record does is what its call answers and leaves
-pub does : (s : Session) (r : Record) → Does s r (doingIn s r)
-does s (Record.Start p) = refl
-does s (Record.Order e) = go (orderIn s e) (entered-by s e) (λ c h. order-place (s .phase) (s .parameters) (controlReference s) (s .given) (s .book .taken) e h) where
-  go : (f : Effect) → enteredBy s f ≡ entered s e → ((c : Change) → f ≡ Effect.Done c → c .place < places) → Does s (Record.Order e) (orderDoing f)
+pub does : (s : Session) → Sound s → (r : Record) → Does s r (doingIn s r)
+does s sound (Record.Start p) = refl
+does s sound (Record.Order e) = go (orderIn s e) (entered-by s e) (λ c h. (order-place (s .phase) (s .parameters) (controlReference s) (s .given) (s .book .taken) e h, order-plain (s .phase) (s .parameters) (controlReference s) (s .given) (s .book .taken) e h)) where
+  go : (f : Effect) → enteredBy s f ≡ entered s e → ((c : Change) → f ≡ Effect.Done c → (c .place < places) × (c .values .quoted ≡ 0)) → Does s (Record.Order e) (orderDoing f)
   go (Effect.Refused n) h p = ap orderStep h
-  go (Effect.Done c) h p = (ap orderStep h, p c refl)
-does s (Record.Delete d) = go (deleteIn s (d .number) (d .member)) (deleted-by s (d .number) (d .member)) (λ c h. delete-place (s .phase) (s .given) (s .book .taken) _ (d .number) (d .member) h) where
-  go : (f : Effect) → deletedBy s f ≡ deleted s (d .number) (d .member) → ((c : Change) → f ≡ Effect.Done c → c .place < places) → Does s (Record.Delete d) (deleteDoing f)
+  go (Effect.Done c) h p = (ap orderStep h, p c refl .0, p c refl .1)
+does s sound (Record.Delete d) = go (deleteIn s (d .number) (d .member)) (deleted-by s (d .number) (d .member)) (λ c h. (delete-place (s .phase) (s .given) (s .book .taken) _ (d .number) (d .member) h, delete-plain (s .phase) (s .given) (s .book .taken) _ (d .number) (d .member) h)) where
+  go : (f : Effect) → deletedBy s f ≡ deleted s (d .number) (d .member) → ((c : Change) → f ≡ Effect.Done c → (c .place < places) × (c .values .quoted ≡ 0)) → Does s (Record.Delete d) (deleteDoing f)
   go (Effect.Refused n) h p = ap deleteStep h
-  go (Effect.Done c) h p = (ap deleteStep h, p c refl)
-does s (Record.Auction which) = refl
+  go (Effect.Done c) h p = (ap deleteStep h, p c refl .0, p c refl .1)
+does s sound (Record.Auction which) = refl
+does s sound (Record.Quote e) = go (quoteIn s e) (quoted-by s e sound) (λ c h. (quote-placed s e h, two-sides (s .phase) (s .parameters) (controlReference s) (s .given) (s .book .taken) (oldIn s (e .member)) e h)) where
+  go : (f : QuoteEffect) → quotedBy s f ≡ quoted s e → ((c : QuoteChange) → f ≡ QuoteEffect.Done c → ((c .fresh .bid < places) × (c .fresh .ask < places)) × TwoSides c) → Does s (Record.Quote e) (quoteDoing f)
+  go (QuoteEffect.Refused n) h p = ap quoteStep h
+  go (QuoteEffect.Done c) h p = (ap quoteStep h, p c refl .0, p c refl .1)
 
 -- .. found from the parts
-pub does-found : (s : Session) (r : Record) {d : Doing} → d ≡ doingIn s r → Does s r d
-does-found s r h = rw h (does s r)
+pub does-found : (s : Session) → Sound s → (r : Record) {d : Doing} → d ≡ doingIn s r → Does s r d
+does-found s sound r h = rw h (does s sound r)
 
 -- a record's lines are those of the record that it is
 pub wrote-as : (s : Session) (place at : ℕ) (old out : List ℕ) (done : Stepped) {r q : Record} → r ≡ q

@@ -7,10 +7,11 @@ use Rattle.terms.specs.Bounds.{tradeListLength}
 use Rattle.terms.specs.Orders.{auctionFrom}
 use Rattle.trades.specs.declared.{Trade.Trade}
 use Rattle.session.specs.declared.{Session.Session}
-use Rattle.entries.specs.declared.{Started.Started, Entered.Entered, Deleted.Deleted}
+use Rattle.entries.specs.declared.{Started.Started, Entered.Entered, Deleted.Deleted, Quoted.Quoted}
 use Rattle.answers.specs.declared.{AuctionAnswer.AuctionAnswer, Auctioned.Auctioned}
 use Rattle.session.specs.State.{freshSession}
 use Rattle.entries.specs.Entry.{started, entered, deleted}
+use Rattle.entries.specs.Quote.{quoted}
 use Rattle.answers.specs.Auctions.{auctionChecks, auctioned, tradesNow}
 use Rattle.refusals.specs.Checks.{answered}
 use Rattle.records.specs.declared.{kinds.Record.Record}
@@ -37,6 +38,9 @@ orderStep r = record { session = r .session; line = numberedLine Word.Order (r .
 abbrev pub deleteStep : Deleted → Step
 deleteStep r = record { session = r .session; line = numberedLine Word.Delete (r .answer) 0; trades = [] }
 
+abbrev pub quoteStep : Quoted → Step
+quoteStep r = record { session = r .session; line = record { word = Word.Quote; answer = r .answer; first = r .bid; second = r .ask; third = 0; fourth = 0 }; trades = [] }
+
 -- the trades of an auction that was not refused
 abbrev pub tradesAnswered : Session → ℕ → List Trade
 tradesAnswered s which = answered (auctionChecks s which tradeListLength) (λ n. []) (tradesNow s (auctionFrom which))
@@ -54,6 +58,7 @@ step s (Record.Start p) = startStep (started s p)
 step s (Record.Order e) = orderStep (entered s e)
 step s (Record.Delete d) = deleteStep (deleted s (d .number) (d .member))
 step s (Record.Auction which) = auctionStep (auctioned s which lent .returned) (tradesAnswered s which)
+step s (Record.Quote e) = quoteStep (quoted s e)
 
 -- the lines of a record, at its place from 1
 abbrev pub stepLines : ℕ → Step → List ℕ

@@ -3,6 +3,7 @@ mod steps;
 mod tell;
 
 use effects::Change;
+use effects::QuoteChange;
 use lines::Word;
 use records::Record;
 use session::Session;
@@ -39,11 +40,12 @@ pub struct Telling {
     pub stop: Stop,
 }
 
-// What a record does: an answer with nothing, or with a change at a place, or a call by value. A refusal's answer is as wide as a change's
-// place, so that the two lie in the same bytes and the compiler keeps both in registers.
+// What a record does: an answer with nothing, or with a change at a place, or with a quote's, or a call by value. A refusal's answer is as wide as
+// a change's place, so that the two lie in the same bytes and the compiler keeps both in registers.
 pub enum Doing {
     Refused(Word, u64),
     Done(Word, Change),
+    Quoted(QuoteChange),
     Start(Start),
     Auction(u8),
 }

@@ -2,11 +2,16 @@
 use crate::Doing;
 use crate::Stepped;
 use book::HINTS;
+use book::Pair;
+use book::QUOTE_HINTS;
 use book::place_by_hint;
+use book::quote_place_by_hint;
 use calls::AuctionAnswer;
 use effects::Effect;
+use effects::QuoteEffect;
 use effects::delete_effect;
 use effects::order_effect;
+use effects::quote_effect;
 use lines::Line;
 use lines::Word;
 use lines::line_of;
@@ -18,6 +23,7 @@ use session::Session;
 use terms::Parameters;
 use terms::Place;
 use terms::Price;
+use terms::Side;
 use terms::Start;
 ghost use mathlib.Core.Path.{_≡_};
 ghost use Prim.Native.Nat.{_+_, _≤_};
@@ -28,7 +34,7 @@ ghost use Rattle.book.specs.Hints.{Numbered};
 ghost use Rattle.session.specs.Sound.{Sound};
 ghost use Rattle.lines.specs.Lengths.{lineRoom};
 ghost use Rattle.transcript.specs.Transcript.{auctionLine, step};
-ghost use Rattle.transcript.specs.Steps.{recordRoom, WroteStep, orderDoing, deleteDoing, doingOf};
+ghost use Rattle.transcript.specs.Steps.{recordRoom, WroteStep, orderDoing, deleteDoing, quoteDoing, oldPair, QuotesKnown, doingOf};
 
 fn order_doing(effect: Effect) -> Doing
     ensures { λ r. ⌜ r ≡ orderDoing effect ⌝ }
@@ -48,7 +54,33 @@ fn delete_doing(effect: Effect) -> Doing
     }
 }
 
-// What a record does, from the parts of the session that decide it; hints only spare a deletion's search.
+fn quote_doing(effect: QuoteEffect) -> Doing
+    ensures { λ r. ⌜ r ≡ quoteDoing effect ⌝ }
+{
+    match effect {
+        QuoteEffect::Refused(answer) => Doing::Refused(Word::Quote, answer as u64),
+        QuoteEffect::Done(c) => Doing::Quoted(c),
+    }
+}
+
+// Where the sides of a member's quote stand.
+fn old_pair<'a>(
+    quoted: &'a [u8; Place::COUNT],
+    members: &'a [u16; Place::COUNT],
+    sides: &'a [u8; Place::COUNT],
+    bids: &'a [u16; QUOTE_HINTS],
+    asks: &'a [u16; QUOTE_HINTS],
+    member: u16,
+) -> Pair
+    requires { ⌜ QuotesKnown (now quoted) (now members) (now sides) (now bids) (now asks) ⌝ }
+    ensures { λ r. ⌜ r ≡ oldPair (now (quoted .entry)) (now (members .entry)) (now (sides .entry)) member ⌝ }
+{
+    let bid = quote_place_by_hint(quoted, members, sides, bids, member, Side::BUY);
+    let ask = quote_place_by_hint(quoted, members, sides, asks, member, Side::SELL);
+    Pair { bid, ask }
+}
+
+// What a record does, from the parts of the session that decide it; hints only spare a search.
 pub(crate) fn doing_of<'a>(
     asked: Record,
     phase: Phase,
@@ -58,10 +90,14 @@ pub(crate) fn doing_of<'a>(
     taken: &'a [u64; WORDS],
     numbers: &'a [u32; Place::COUNT],
     members: &'a [u16; Place::COUNT],
+    quoted: &'a [u8; Place::COUNT],
+    sides: &'a [u8; Place::COUNT],
     hints: &'a [u16; HINTS],
+    bids: &'a [u16; QUOTE_HINTS],
+    asks: &'a [u16; QUOTE_HINTS],
 ) -> Doing
-    requires { ⌜ Numbered (now taken) (now numbers) given ⌝ }
-    ensures { λ r. ⌜ r ≡ doingOf asked phase parameters reference given (now (taken .entry)) (now (numbers .entry)) (now (members .entry)) ⌝ }
+    requires { ⌜ Numbered (now taken) (now numbers) given × QuotesKnown (now quoted) (now members) (now sides) (now bids) (now asks) ⌝ }
+    ensures { λ r. ⌜ r ≡ doingOf asked phase parameters reference given (now (taken .entry)) (now (numbers .entry)) (now (members .entry)) (now (quoted .entry)) (now (sides .entry)) ⌝ }
 {
     match asked {
         Record::Start(p) => Doing::Start(p),
@@ -78,6 +114,10 @@ pub(crate) fn doing_of<'a>(
             delete_doing(delete_effect(phase, given, taken, place, d.number, d.member))
         }
         Record::Auction(which) => Doing::Auction(which),
+        Record::Quote(e) => {
+            let old = old_pair(quoted, members, sides, bids, asks, e.member);
+            quote_doing(quote_effect(phase, parameters, reference, given, taken, old, e))
+        }
     }
 }
 

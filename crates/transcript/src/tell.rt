@@ -7,11 +7,18 @@ use crate::steps::auction_written;
 use crate::steps::doing_of;
 use crate::steps::start_written;
 use book::HINTS;
+use book::QUOTE_HINTS;
 use book::hint;
 use book::hint_all;
 use book::put8;
 use book::put16;
 use book::put32;
+use book::quote_hint;
+use book::quote_hint_all;
+use book::requote_words;
+use book::requote8;
+use book::requote16;
+use book::requote32;
 use lines::LINE_ROOM;
 use lines::Line;
 use lines::TRADE_ROOM;
@@ -19,11 +26,13 @@ use lines::done_line;
 use lines::end_line;
 use lines::fault_line;
 use lines::line_of;
+use lines::quote_line;
 use places::WORD_PLACES;
 use places::put_word;
 use records::Piece;
 use records::read_at;
 use session::Session;
+use terms::Side;
 use trades::Trade;
 ghost use mathlib.Core.Path.{_≡_};
 ghost use Prim.Native.Nat.{_+_, _≤_, _<_, _^_};
@@ -68,6 +77,22 @@ fn records_told(
     let mut hints = [0u16; HINTS];
     hint_all(&mut hints, &session.book.number);
     let mut present = session;
+    let mut bids = [0u16; QUOTE_HINTS];
+    quote_hint_all(
+        &mut bids,
+        &present.book.quoted,
+        &present.book.member,
+        &present.book.side,
+        Side::BUY,
+    );
+    let mut asks = [0u16; QUOTE_HINTS];
+    quote_hint_all(
+        &mut asks,
+        &present.book.quoted,
+        &present.book.member,
+        &present.book.side,
+        Side::SELL,
+    );
     let mut count = answered;
     let mut place: usize = 0;
     let mut at: usize = 0;
@@ -89,7 +114,11 @@ fn records_told(
                     &present.book.taken,
                     &present.book.number,
                     &present.book.member,
+                    &present.book.quoted,
+                    &present.book.side,
                     &hints,
+                    &bids,
+                    &asks,
                 );
                 match doing {
                     Doing::Refused(word, answer) => {
@@ -110,17 +139,71 @@ fn records_told(
                         hint(&mut hints, values.number, spot);
                         at = done_line(out, at, count, word, c.given);
                     }
+                    Doing::Quoted(c) => {
+                        let old = c.old;
+                        let fresh = c.fresh;
+                        let bid = c.bid;
+                        let ask = c.ask;
+                        present.given = c.given;
+                        requote_words(&mut present.book.taken, old, fresh);
+                        requote32(&mut present.book.number, old, fresh, bid.number, ask.number);
+                        requote16(&mut present.book.member, old, fresh, bid.member, ask.member);
+                        requote8(&mut present.book.side, old, fresh, bid.side, ask.side);
+                        requote8(
+                            &mut present.book.validity,
+                            old,
+                            fresh,
+                            bid.validity,
+                            ask.validity,
+                        );
+                        requote32(&mut present.book.left, old, fresh, bid.left, ask.left);
+                        requote32(&mut present.book.limit, old, fresh, bid.limit, ask.limit);
+                        requote8(&mut present.book.quoted, old, fresh, bid.quoted, ask.quoted);
+                        hint(&mut hints, bid.number, fresh.bid);
+                        hint(&mut hints, ask.number, fresh.ask);
+                        quote_hint(&mut bids, bid.member, fresh.bid);
+                        quote_hint(&mut asks, bid.member, fresh.ask);
+                        at = quote_line(out, at, count, bid.number, ask.number);
+                    }
                     Doing::Start(p) => {
                         let r = start_written(present, p, count, out, at);
                         let later = r.session;
                         present = later;
                         at = r.at;
+                        quote_hint_all(
+                            &mut bids,
+                            &present.book.quoted,
+                            &present.book.member,
+                            &present.book.side,
+                            Side::BUY,
+                        );
+                        quote_hint_all(
+                            &mut asks,
+                            &present.book.quoted,
+                            &present.book.member,
+                            &present.book.side,
+                            Side::SELL,
+                        );
                     }
                     Doing::Auction(which) => {
                         let r = auction_written(present, which, list, count, out, at);
                         let later = r.session;
                         present = later;
                         at = r.at;
+                        quote_hint_all(
+                            &mut bids,
+                            &present.book.quoted,
+                            &present.book.member,
+                            &present.book.side,
+                            Side::BUY,
+                        );
+                        quote_hint_all(
+                            &mut asks,
+                            &present.book.quoted,
+                            &present.book.member,
+                            &present.book.side,
+                            Side::SELL,
+                        );
                     }
                 }
             }

@@ -29,6 +29,18 @@ delete-doing-requires c κs = search needs
 enum-known-asked-4 : tie.Need-enum-known-asked-4
 enum-known-asked-4 c = search needs
 
+enum-known-asked-5 : tie.Need-enum-known-asked-5
+enum-known-asked-5 c = search needs
+
+old-pair-requires : tie.Need-old-pair-requires
+old-pair-requires c κs = search needs
+
+quote-effect-requires : tie.Need-quote-effect-requires
+quote-effect-requires c κs = search needs
+
+quote-doing-requires : tie.Need-quote-doing-requires
+quote-doing-requires c κs = search needs
+
 returns : tie.Need-returns
 returns c = rw (c .before .asked .given .1)
 
@@ -40,6 +52,9 @@ returns-3 c = rw (c .before .before .before .before .asked3 .given .1) (rw (c .b
 
 returns-4 : tie.Need-returns-4
 returns-4 c = rw (c .before .asked4 .given .1)
+
+returns-5 : tie.Need-returns-5
+returns-5 c = rw (c .before .before .before .before .asked5 .given .1) (rw (c .before .quote-effect .ensures, c .before .before .old-pair .ensures) at (c .quote-doing .ensures))
 
 pub doing-of-spec : {M : Type 1} → statement M
 doing-of-spec =
@@ -54,7 +69,12 @@ doing-of-spec =
     delete-effect-requires
     delete-doing-requires
     enum-known-asked-4
+    enum-known-asked-5
+    old-pair-requires
+    quote-effect-requires
+    quote-doing-requires
     returns
     returns-2
     returns-3
-    returns-4)
+    returns-4
+    returns-5)
