@@ -1,6 +1,6 @@
 -- Every call: one answer (A2), refusals given exactly when (A4), and a refusal changes nothing (A5). The promises themselves (A1) stand
 -- with the calls; each is an equation with the definition named here.
-use Prim.Native.Nat.{ℕ, _<_}
+use Prim.Native.Nat.{ℕ, _+_, _<_}
 use mathlib.Core.Bool.{not, _&&_, _||_}
 use mathlib.Core.Logic.{_↔_, _≢_}
 use mathlib.Core.Path.{_≡_, refl, sym, ap, _∙_}
@@ -12,19 +12,23 @@ use Rattle.terms.specs.Bounds.{places, maxNumber, tradeListLength}
 use Rattle.terms.specs.Kinds.{isNumber, isMember}
 use Rattle.terms.specs.Orders.{isEntry, orderFrom, isSide, isAuction, sideFrom, auctionFrom}
 use Rattle.terms.specs.Parameters.{isStart}
-use Rattle.terms.specs.declared.orders.{Entry.Entry}
+use Rattle.terms.specs.Quotes.{isQuote, quoteFrom, quoteOrder, isCrossed}
+use Rattle.terms.specs.declared.orders.{Entry.Entry, Validity.Validity, Side.the-variants.Buy, Side.the-variants.Sell}
 use Rattle.terms.specs.declared.parameters.{Start.Start}
+use Rattle.terms.specs.declared.quotes.{QuoteEntry.QuoteEntry}
 use Rattle.places.specs.Places.{countTaken}
 use Rattle.book.specs.Resting.{resting, isOf}
+use Rattle.book.specs.Quotes.{withoutQuote}
 use Rattle.refusals.specs.Phases.{hasStarted, allowsOrder, allowsAuction}
 use Rattle.refusals.specs.Controls.{offStep, reachesCollar, reachesMost, reachesMostAtReference}
 use Rattle.refusals.specs.Checks.{Check, firstHit, answered-number, answered-not-done}
 use Rattle.refusals.specs.Exactly.{ruleOf, earlier, NoneHit, wellNumbered, none-hit, given-exactly-when}
 use Rattle.session.specs.declared.{Session.Session}
-use Rattle.entries.specs.declared.{Started.Started, Entered.Entered, Deleted.Deleted}
+use Rattle.entries.specs.declared.{Started.Started, Entered.Entered, Deleted.Deleted, Quoted.Quoted}
 use Rattle.answers.specs.declared.{Foreseen.Foreseen}
 use Rattle.session.specs.State.{freshSession}
 use Rattle.entries.specs.Entry.{startChecks, startRefused, startDone, started, controlReference, orderChecks, orderRefused, orderDone, entered, deleteChecks, deleteRefused, deleteDone, deleted}
+use Rattle.entries.specs.Quote.{quoteChecks, quoteRefused, quoteDone, quoted}
 use Rattle.answers.specs.Auctions.{AuctionLeaves, noAnswer, auctionChecks, auctionRefused, auctionDone, auctioned, theoreticalChecks, theoreticalRefused, theoreticalDone, theoretical}
 use Rattle.standings.specs.Queues.{QueueLeaves, rankedChecks, queueRefused, queueDone, rankedNumbers, queued, FrontAnswer, frontChecks, frontRefused, frontDone, filledFront}
 
@@ -34,6 +38,7 @@ pub record OneAnswer : Type 0 where
   pub of-start : (s : Session) (x : Start) (r q : Started) → r ≡ started s x → q ≡ started s x → r ≡ q
   pub of-order : (s : Session) (e : Entry) (r q : Entered) → r ≡ entered s e → q ≡ entered s e → r ≡ q
   pub of-delete : (s : Session) (number member : ℕ) (r q : Deleted) → r ≡ deleted s number member → q ≡ deleted s number member → r ≡ q
+  pub of-quote : (s : Session) (e : QuoteEntry) (r q : Quoted) → r ≡ quoted s e → q ≡ quoted s e → r ≡ q
   pub of-auction : (s : Session) (which : ℕ) (list : List ℕ) (r q : AuctionLeaves) → r ≡ auctioned s which list → q ≡ auctioned s which list → r ≡ q
   pub of-theoretical : (s : Session) (which : ℕ) (r q : Foreseen) → r ≡ theoretical s which → q ≡ theoretical s which → r ≡ q
   pub of-ranked : (s : Session) (side which : ℕ) (list : List ℕ) (r q : QueueLeaves) → r ≡ queued s side which list → q ≡ queued s side which list → r ≡ q
@@ -45,6 +50,7 @@ one-answer = record {
   of-start = λ s x r q h k. h ∙ sym k;
   of-order = λ s e r q h k. h ∙ sym k;
   of-delete = λ s number member r q h k. h ∙ sym k;
+  of-quote = λ s e r q h k. h ∙ sym k;
   of-auction = λ s which list r q h k. h ∙ sym k;
   of-theoretical = λ s which r q h k. h ∙ sym k;
   of-ranked = λ s side which list r q h k. h ∙ sym k;
@@ -72,6 +78,10 @@ pub delete-answer : (s : Session) (number member : ℕ) → deleted s number mem
 unfolding deleted
 delete-answer s number member = answered-number (deleteChecks s number member) (deleteRefused s) (deleteDone s number member) (λ (r : Deleted). r .answer) (λ n. refl) refl
 
+pub quote-answer : (s : Session) (e : QuoteEntry) → quoted s e .answer ≡ firstHit (quoteChecks s e)
+unfolding quoted
+quote-answer s e = answered-number (quoteChecks s e) (quoteRefused s) (quoteDone s e) (λ (r : Quoted). r .answer) (λ n. refl) refl
+
 pub auction-answer : (s : Session) (which : ℕ) (list : List ℕ) → auctioned s which list .returned .answer ≡ firstHit (auctionChecks s which (length list))
 unfolding auctioned
 auction-answer s which list = answered-number (auctionChecks s which (length list)) (auctionRefused s list) (auctionDone s (auctionFrom which) list) (λ (l : AuctionLeaves). l .returned .answer) (λ n. refl) refl
@@ -98,6 +108,10 @@ order-exactly s e = exactly (orderChecks s e) tt _ (order-answer s e)
 pub delete-exactly : (s : Session) (number member : ℕ) → ExactlyWhen (deleted s number member .answer) (deleteChecks s number member)
 delete-exactly s number member = exactly (deleteChecks s number member) tt _ (delete-answer s number member)
 
+-- .. of a quote (02 K2): 1, 13, 2, 4, 5, 6, 7, 8, 9, 10
+pub quote-exactly : (s : Session) (e : QuoteEntry) → ExactlyWhen (quoted s e .answer) (quoteChecks s e)
+quote-exactly s e = exactly (quoteChecks s e) tt _ (quote-answer s e)
+
 pub auction-exactly : (s : Session) (which : ℕ) (list : List ℕ) → ExactlyWhen (auctioned s which list .returned .answer) (auctionChecks s which (length list))
 auction-exactly s which list = exactly (auctionChecks s which (length list)) tt _ (auction-answer s which list)
 
@@ -110,7 +124,8 @@ ranked-exactly s side which list = exactly (rankedChecks s side which (length li
 pub front-exactly : (buys sells : List ℕ) (side total : ℕ) → ExactlyWhen (filledFront buys sells side total .answer) (frontChecks buys sells side)
 front-exactly buys sells side total = exactly (frontChecks buys sells side) tt _ (front-answer buys sells side total)
 
--- The rules one by one, as the table of 01 has them.
+-- The rules one by one, as the table of 01 has them; those of a quote as 02 K2 has them: 5 to 8 where the bid hits or the ask does, 9 where fewer than
+-- two numbers are left, and 10 where fewer than two places would be, the member's old quote gone.
 pub record Rules (s : Session) : Type 0 where
   pub start-1 : (x : Start) → ruleOf 1 (startChecks s x) ≡ not (isStart x)
   pub start-3 : (x : Start) → ruleOf 3 (startChecks s x) ≡ hasStarted (s .phase)
@@ -126,6 +141,20 @@ pub record Rules (s : Session) : Type 0 where
   pub delete-1 : (number member : ℕ) → ruleOf 1 (deleteChecks s number member) ≡ not (isNumber number && isMember member)
   pub delete-2 : (number member : ℕ) → ruleOf 2 (deleteChecks s number member) ≡ not (hasStarted (s .phase))
   pub delete-11 : (number member : ℕ) → ruleOf 11 (deleteChecks s number member) ≡ not (any (isOf number member) (resting (s .book)))
+  pub quote-1 : (e : QuoteEntry) → ruleOf 1 (quoteChecks s e) ≡ not (isQuote e)
+  pub quote-13 : (e : QuoteEntry) → ruleOf 13 (quoteChecks s e) ≡ isCrossed (quoteFrom e)
+  pub quote-2 : (e : QuoteEntry) → ruleOf 2 (quoteChecks s e) ≡ not (hasStarted (s .phase))
+  pub quote-4 : (e : QuoteEntry) → ruleOf 4 (quoteChecks s e) ≡ not (allowsOrder (s .phase) Validity.Day)
+  pub quote-5 : (e : QuoteEntry) → ruleOf 5 (quoteChecks s e)
+      ≡ offStep (s .parameters .step) (quoteOrder (quoteFrom e) Buy .limit) || offStep (s .parameters .step) (quoteOrder (quoteFrom e) Sell .limit)
+  pub quote-6 : (e : QuoteEntry) → ruleOf 6 (quoteChecks s e)
+      ≡ reachesCollar (controlReference s) (s .parameters .factor) (quoteOrder (quoteFrom e) Buy .limit) || reachesCollar (controlReference s) (s .parameters .factor) (quoteOrder (quoteFrom e) Sell .limit)
+  pub quote-7 : (e : QuoteEntry) → ruleOf 7 (quoteChecks s e)
+      ≡ reachesMost (s .parameters .most) (quoteFrom e .bid .quantity) (quoteOrder (quoteFrom e) Buy .limit) || reachesMost (s .parameters .most) (quoteFrom e .ask .quantity) (quoteOrder (quoteFrom e) Sell .limit)
+  pub quote-8 : (e : QuoteEntry) → ruleOf 8 (quoteChecks s e)
+      ≡ reachesMostAtReference (s .parameters .most) (quoteFrom e .bid .quantity) (controlReference s) || reachesMostAtReference (s .parameters .most) (quoteFrom e .ask .quantity) (controlReference s)
+  pub quote-9 : (e : QuoteEntry) → ruleOf 9 (quoteChecks s e) ≡ ltb maxNumber (s .given + 2)
+  pub quote-10 : (e : QuoteEntry) → ruleOf 10 (quoteChecks s e) ≡ ltb places (countTaken (withoutQuote (e .member) (s .book) .taken) + 2)
   pub auction-1 : (which size : ℕ) → ruleOf 1 (auctionChecks s which size) ≡ not (isAuction which)
   pub auction-2 : (which size : ℕ) → ruleOf 2 (auctionChecks s which size) ≡ not (hasStarted (s .phase))
   pub auction-4 : (which size : ℕ) → ruleOf 4 (auctionChecks s which size) ≡ not (allowsAuction (s .phase) (auctionFrom which))
@@ -154,6 +183,16 @@ rules s = record {
   delete-1 = λ number member. refl;
   delete-2 = λ number member. refl;
   delete-11 = λ number member. refl;
+  quote-1 = λ e. refl;
+  quote-13 = λ e. refl;
+  quote-2 = λ e. refl;
+  quote-4 = λ e. refl;
+  quote-5 = λ e. refl;
+  quote-6 = λ e. refl;
+  quote-7 = λ e. refl;
+  quote-8 = λ e. refl;
+  quote-9 = λ e. refl;
+  quote-10 = λ e. refl;
   auction-1 = λ which size. refl;
   auction-2 = λ which size. refl;
   auction-4 = λ which size. refl;
@@ -172,6 +211,7 @@ pub record ChangesNothing (s : Session) : Type 0 where
   pub start-refused : (x : Start) → started s x .answer ≢ 0 → started s x .session ≡ s
   pub order-refused : (e : Entry) → entered s e .answer ≢ 0 → (entered s e .session ≡ s) × (entered s e .number ≡ 0)
   pub delete-refused : (number member : ℕ) → deleted s number member .answer ≢ 0 → deleted s number member .session ≡ s
+  pub quote-refused : (e : QuoteEntry) → quoted s e .answer ≢ 0 → (quoted s e .session ≡ s) × (quoted s e .bid ≡ 0) × (quoted s e .ask ≡ 0)
   pub auction-refused : (which : ℕ) (list : List ℕ) → auctioned s which list .returned .answer ≢ 0 → auctioned s which list ≡ auctionRefused s list (auctioned s which list .returned .answer)
   pub theoretical-refused : (which : ℕ) → theoretical s which .answer ≢ 0 → theoretical s which .result ≡ noAnswer
   pub ranked-refused : (side which : ℕ) (list : List ℕ) → queued s side which list .returned .answer ≢ 0 → (queued s side which list .list ≡ list) × (queued s side which list .returned .count ≡ 0)
@@ -190,6 +230,10 @@ module _ (s : Session) where
   unfolding deleted
   delete-is number member = answered-not-done (deleteChecks s number member) (deleteRefused s) (deleteDone s number member) (λ (r : Deleted). r .answer) (λ n. refl) refl
 
+  quote-is : (e : QuoteEntry) → quoted s e .answer ≢ 0 → quoted s e ≡ quoteRefused s (quoted s e .answer)
+  unfolding quoted
+  quote-is e = answered-not-done (quoteChecks s e) (quoteRefused s) (quoteDone s e) (λ (r : Quoted). r .answer) (λ n. refl) refl
+
   auction-is : (which : ℕ) (list : List ℕ) → auctioned s which list .returned .answer ≢ 0 → auctioned s which list ≡ auctionRefused s list (auctioned s which list .returned .answer)
   unfolding auctioned
   auction-is which list = answered-not-done (auctionChecks s which (length list)) (auctionRefused s list) (auctionDone s (auctionFrom which) list) (λ (l : AuctionLeaves). l .returned .answer) (λ n. refl) refl
@@ -207,6 +251,7 @@ changes-nothing s = record {
   start-refused = λ x h. ap (λ (r : Started). r .session) (start-is s x h);
   order-refused = λ e h. let i = order-is s e h in (ap (λ (r : Entered). r .session) i, ap (λ (r : Entered). r .number) i);
   delete-refused = λ number member h. ap (λ (r : Deleted). r .session) (delete-is s number member h);
+  quote-refused = λ e h. let i = quote-is s e h in (ap (λ (r : Quoted). r .session) i, ap (λ (r : Quoted). r .bid) i, ap (λ (r : Quoted). r .ask) i);
   auction-refused = auction-is s;
   theoretical-refused = λ which h. ap (λ (r : Foreseen). r .result) (theoretical-is s which h);
   ranked-refused = λ side which list h. let i = ranked-is s side which list h in (ap (λ (l : QueueLeaves). l .list) i, ap (λ (l : QueueLeaves). l .returned .count) i);

@@ -26,6 +26,7 @@ unfolding started auctioned
 mark-stays s (Act.start x) e = answered-cases (startChecks s x) (startRefused s) (startDone s x) (λ (r : Started). r .session .delayed ≡ true) (λ n h i. e) (λ i. e)
 mark-stays s (Act.order o) e = others-keep s .order o .1 ∙ e
 mark-stays s (Act.delete number member) e = others-keep s .delete number member .1 ∙ e
+mark-stays s (Act.quote q) e = others-keep s .quote q .1 ∙ e
 mark-stays s (Act.auction which list) e =
     answered-cases (auctionChecks s which (length list)) (auctionRefused s list) (auctionDone s (auctionFrom which) list) (λ (l : AuctionLeaves). l .returned .session .delayed ≡ true)
     (λ n h i. e) (λ i. outcomes (auctionFrom which) (outcomeOf s (auctionFrom which)))

@@ -36,7 +36,7 @@ pub record LowestFree (words : List ℕ) : Type 0 where
 pub lowest-free : (words : List ℕ) → LowestFree words
 lowest-free words = record { below-taken = lowest-free-least words; itself-free = lowest-free-clear words; count = count-is-taken words }
 
--- the order that an accepted entry enters: under the next number, each field as the entry has it
+-- the order that an accepted entry enters: under the next number, each field as the entry has it, and no side of a quote
 pub record AsAsked (number : ℕ) (e : Entry) (o : Resting) : Type 0 where
   pub numbered : o .number ≡ number
   pub member : o .member ≡ e .member
@@ -44,6 +44,7 @@ pub record AsAsked (number : ℕ) (e : Entry) (o : Resting) : Type 0 where
   pub validity : validityNumber (o .validity) ≡ e .validity
   pub left : o .left ≡ e .quantity
   pub limit : limitNumber (o .limit) ≡ e .limit
+  pub not-quoted : o .quoted ≡ false
 
 -- B2. An accepted order: those that rested and the new one, under the next number, at the lowest free place, and all other places as before.
 pub record Entered (s : Session) (e : Entry) : Type 0 where
@@ -73,6 +74,7 @@ accepted-entry s e sound done =
         validity = validity-number (e .validity) (fields .validity);
         left = refl;
         limit = limit-number (e .limit);
+        not-quoted = refl;
       };
       session-after = entered-after s e h;
       rests = stored-resting (s .book) sized place (ok .room) free (orderEntered s e) (fields .limit);

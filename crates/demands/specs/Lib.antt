@@ -2,6 +2,7 @@
 pub mod Answers
 pub mod Sequences
 pub mod Entries
+pub mod Quotes
 pub mod RankedQueues
 pub mod Prices
 pub mod Outcomes

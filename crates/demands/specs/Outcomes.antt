@@ -15,6 +15,7 @@ use Rattle.terms.specs.Orders.{auctionNumber, isAuction, auctionFrom}
 use Rattle.terms.specs.Parameters.{parametersFrom}
 use Rattle.terms.specs.declared.orders.{Auction.Auction, Auction.the-variants.Opening, Auction.the-variants.Closing, Entry.Entry}
 use Rattle.terms.specs.declared.parameters.{Start.Start}
+use Rattle.terms.specs.declared.quotes.{QuoteEntry.QuoteEntry}
 use Rattle.price.specs.Interest.{executable}
 use Rattle.price.specs.Chain.{auctionPrice}
 use Rattle.auction.specs.declared.{Outcome.Outcome, Outcome.the-variants.Traded, Outcome.the-variants.NoTrade, Outcome.the-variants.NonOpening, Outcome.the-variants.Delayed}
@@ -23,12 +24,13 @@ use Rattle.trades.specs.Written.{tradesWritten}
 use Rattle.refusals.specs.declared.phases.{Phase.the-variants.PreOpening}
 use Rattle.session.specs.declared.{Session.Session}
 use Rattle.answers.specs.declared.{AuctionAnswer.AuctionAnswer}
-use Rattle.entries.specs.declared.{Started.Started, Entered.Entered, Deleted.Deleted}
+use Rattle.entries.specs.declared.{Started.Started, Entered.Entered, Deleted.Deleted, Quoted.Quoted}
 use Rattle.session.specs.State.{delayGiven}
 use Rattle.refusals.specs.Phases.{hasStarted, phaseAfter}
 use Rattle.refusals.specs.Checks.{firstHit, answered-cases, answered-done}
 use Rattle.refusals.specs.Exactly.{clear}
 use Rattle.entries.specs.Entry.{startChecks, startRefused, startDone, started, orderChecks, orderRefused, orderDone, entered, deleteChecks, deleteRefused, deleteDone, deleted}
+use Rattle.entries.specs.Quote.{quoteChecks, quoteRefused, quoteDone, quoted}
 use Rattle.answers.specs.Auctions.{AuctionLeaves, heldBy, outcomeOf, answerOf, sessionAfter, auctionLeaves, auctionChecks, auctionRefused, auctionDone, auctioned}
 use Rattle.session.specs.State.{part}
 use Rattle.demands.specs.Answers.{auction-answer}
@@ -207,8 +209,8 @@ pub outcome-changes : (s : Session) (a : Auction) (list : List ℕ) → auctione
     → OutcomeChanges s a list (auctioned s (auctionNumber a) list)
 outcome-changes s a list accepted = subst (OutcomeChanges s a list) (sym (carried-out s a list accepted .leaves)) (changes s a list)
 
--- B9, of the other calls: a start leads to pre-opening with its reference price in force; an order and a deletion keep phase, mark,
--- parameters and reference price. The rest return no session.
+-- B9, of the other calls: a start leads to pre-opening with its reference price in force; an order, a deletion and a quote keep phase,
+-- mark, parameters and reference price. The rest return no session.
 abbrev pub Standing : Session → Session → Type 0
 Standing s t = (t .phase ≡ s .phase) × (t .delayed ≡ s .delayed) × (t .parameters ≡ s .parameters) × (t .reference ≡ s .reference)
 
@@ -218,9 +220,10 @@ pub record OthersKeep (s : Session) : Type 0 where
       × (started s x .session .reference .0 ≡ x .reference)
   pub order : (e : Entry) → Standing s (entered s e .session)
   pub delete : (number member : ℕ) → Standing s (deleted s number member .session)
+  pub quote : (e : QuoteEntry) → Standing s (quoted s e .session)
 
 pub others-keep : (s : Session) → OthersKeep s
-unfolding started entered deleted
+unfolding started entered deleted quoted
 others-keep s = record {
   start = λ x.
       answered-cases (startChecks s x) (startRefused s) (startDone s x)
@@ -230,4 +233,6 @@ others-keep s = record {
       answered-cases (orderChecks s e) (orderRefused s) (orderDone s e) (λ (r : Entered). Standing s (r .session)) (λ n h i. (refl, refl, refl, refl)) (λ i. (refl, refl, refl, refl));
   delete = λ number member.
       answered-cases (deleteChecks s number member) (deleteRefused s) (deleteDone s number member) (λ (r : Deleted). Standing s (r .session)) (λ n h i. (refl, refl, refl, refl)) (λ i. (refl, refl, refl, refl));
+  quote = λ e.
+      answered-cases (quoteChecks s e) (quoteRefused s) (quoteDone s e) (λ (r : Quoted). Standing s (r .session)) (λ n h i. (refl, refl, refl, refl)) (λ i. (refl, refl, refl, refl));
 }

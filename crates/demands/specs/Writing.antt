@@ -15,7 +15,8 @@ use Rattle.terms.specs.declared.quotes.{QuoteEntry.QuoteEntry}
 use Rattle.refusals.specs.Checks.{answered-number, answered-not-done}
 use Rattle.refusals.specs.Exactly.{ruleOf}
 use Rattle.session.specs.declared.{Session.Session}
-use Rattle.entries.specs.Entry.{started, entered, deleted, quoted}
+use Rattle.entries.specs.Entry.{started, entered, deleted}
+use Rattle.entries.specs.Quote.{quoted}
 use Rattle.answers.specs.Auctions.{auctioned}
 use Rattle.records.specs.declared.{kinds.Record.Record, kinds.Deletion.Deletion}
 use Rattle.records.specs.Fields.{inRange}
