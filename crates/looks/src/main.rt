@@ -17,6 +17,7 @@ use records::Piece;
 use records::Record;
 use records::read_at;
 use terms::Entry;
+use terms::QuoteEntry;
 use terms::Start;
 use text::put_line;
 use text::show;
@@ -83,6 +84,15 @@ fn auctioned(session: Session, which: u8) -> Session
     later
 }
 
+fn quoted(session: Session, entry: QuoteEntry) -> Session
+    requires { ⌜ Sound session ⌝ }
+    ensures { λ r. ⌜ Sound r ⌝ }
+{
+    let r = calls::quote(session, entry);
+    let later = r.session;
+    later
+}
+
 // The session after a record, as the session program carries it out (01 "Session file").
 fn carried_out(session: Session, record: Record) -> Session
     requires { ⌜ Sound session ⌝ }
@@ -93,6 +103,7 @@ fn carried_out(session: Session, record: Record) -> Session
         Record::Order(entry) => entered(session, entry),
         Record::Delete(deletion) => deleted(session, deletion),
         Record::Auction(which) => auctioned(session, which),
+        Record::Quote(entry) => quoted(session, entry),
     }
 }
 
