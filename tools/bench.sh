@@ -22,6 +22,7 @@ more() {
 none=$(run entry_cost '') || exit 1
 order=$(run entry_cost o) || exit 1
 deletion=$(run entry_cost d) || exit 1
+quote=$(run entry_cost q) || exit 1
 
 row() { printf '%-28s %12s %12s\n' "$@"; }
 row 'x86-64' instructions 'bytes moved'
@@ -30,8 +31,10 @@ row 'x86-64' instructions 'bytes moved'
     row '511 orders' $none
     row '511 orders and an order' $order
     row '511 orders and a deletion' $deletion
+    row '511 orders and a quote' $quote
     row 'one order' $(more "$none" "$order")
     row 'one deletion' $(more "$none" "$deletion")
+    row 'one quote' $(more "$none" "$quote")
 }
 
 wide() { printf '%-28s %12s %12s %12s\n' "$@"; }
@@ -89,17 +92,18 @@ for file in empty mixed start full opening quotes overwriting; do
 done
 
 # cost ERMS PROGRAM: instructions and bytes moved for each of the 5,000 mixed records, for each of the 512 orders of a file of orders only,
-# then for the auction of a full book. ERMS: as count.sh takes it, or nothing.
+# for the auction of a full book, for each of 256 quotes that fill a book, each its member's first, and for each of 5,000 with which 8 members
+# overwrite theirs. ERMS: as count.sh takes it, or nothing.
 cost() {
-    for file in empty mixed start full opening; do
+    for file in empty mixed start full opening quotes overwriting; do
         sh tools/count.sh ${1:+"$1"} "$2" "$dir/$file" >"$dir/$file.count" || exit 1
     done
-    cat "$dir/empty.count" "$dir/mixed.count" "$dir/start.count" "$dir/full.count" "$dir/opening.count" | awk '
+    (cd "$dir" && cat empty.count mixed.count start.count full.count opening.count quotes.count overwriting.count) | awk '
         { n[NR] = $1; bytes[NR] = $2 }
         function each(from, to, count) {
             printf "%.0f %s ", (n[to] - n[from]) / count, bytes[to] == "-" ? "-" : sprintf("%.0f", (bytes[to] - bytes[from]) / count)
         }
-        END { each(1, 2, 5000); each(3, 4, 512); each(4, 5, 1) }'
+        END { each(1, 2, 5000); each(3, 4, 512); each(4, 5, 1); each(3, 6, 256); each(3, 7, 5000) }'
 }
 # line TITLE (COUNT BYTES)..: without the bytes where the C library has no string moves
 line() {
@@ -114,9 +118,9 @@ line() {
 }
 # ratio TITLE COST: the instructions of replay for one of the other's
 ratio() {
-    echo "$replay $2" | awk '{ printf "%.2f %.2f %.2f\n", $1 / $7, $3 / $9, $5 / $11 }' >"$dir/ratios"
-    read -r record order auction <"$dir/ratios"
-    line "$1" "$record" '' "$order" '' "$auction" ''
+    echo "$replay $2" | awk '{ printf "%.2f %.2f %.2f %.2f %.2f\n", $1 / $11, $3 / $13, $5 / $15, $7 / $17, $9 / $19 }' >"$dir/ratios"
+    read -r record order auction quote over <"$dir/ratios"
+    line "$1" "$record" '' "$order" '' "$auction" '' "$quote" '' "$over" ''
 }
 # files TITLE [ERMS]: the table of the session files
 files() {
@@ -126,7 +130,7 @@ files() {
     plain=$(cost "$erms" "$dir/plain") || exit 1
     sums=$(cost "$erms" "$dir/sums") || exit 1
     echo
-    line "$1" 'a record' 'bytes moved' 'an order' 'bytes moved' 'an auction' 'bytes moved'
+    line "$1" 'a record' 'bytes moved' 'an order' 'bytes moved' 'an auction' 'bytes moved' 'a first quote' 'bytes moved' 'another quote' 'bytes moved'
     # shellcheck disable=SC2086
     {
         line 'replay' $replay
