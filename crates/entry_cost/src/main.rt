@@ -1,17 +1,20 @@
-// What one order and one deletion cost where the book is full. It makes a session with 511 orders, and one call more by
-// the byte on standard input: `o` an order, `d` a deletion, any other none. tools/bench.sh counts the instructions.
+// What one order, one quote and one deletion cost where the book is full. It makes a session in which 511 orders rest, 509 and the two sides of a
+// quote, and one call more by the byte on standard input: `o` an order, `q` the quote overwritten, `d` a deletion, any other none. tools/bench.sh
+// counts the instructions.
 use calls::Session;
 use libc::STDIN_FILENO;
 use libc::STDOUT_FILENO;
 use terms::Entry;
 use terms::Place;
+use terms::QuoteEntry;
 use terms::Side;
+use terms::SideEntry;
 use terms::Start;
 use terms::Validity;
 ghost use Prim.Native.Nat.{_≤_};
 ghost use Rattle.session.specs.Sound.{Sound};
 
-const ORDERS: u32 = 511;
+const ORDERS: u32 = 509;
 
 const MEMBER: u16 = 7;
 
@@ -48,6 +51,20 @@ fn day_buy() -> Entry {
     }
 }
 
+fn quote_of(quantity: u32) -> QuoteEntry {
+    QuoteEntry {
+        member: MEMBER,
+        bid: SideEntry {
+            quantity,
+            limit: 100_000,
+        },
+        ask: SideEntry {
+            quantity,
+            limit: 100_100,
+        },
+    }
+}
+
 fn filled() -> Session
     ensures { λ r. ⌜ Sound r ⌝ }
 {
@@ -59,15 +76,26 @@ fn filled() -> Session
         session = next;
         i += 1;
     }
-    session
+    let r = calls::quote(session, quote_of(10));
+    let last = r.session;
+    last
 }
 
-// The one call more. The last order stands at a late place, the worst case of a deletion.
+// The one call more. The quote and the order that is deleted stand at late places, nearly the worst case. The new quote has another quantity, which
+// the sum shows.
 fn one_more(session: Session, byte: u8) -> LastCall
     requires { ⌜ Sound session ⌝ }
 {
     if byte == b'o' {
         let r = calls::order(session, day_buy());
+        let next = r.session;
+        return LastCall {
+            answer: r.answer,
+            session: next,
+        };
+    }
+    if byte == b'q' {
+        let r = calls::quote(session, quote_of(20));
         let next = r.session;
         return LastCall {
             answer: r.answer,

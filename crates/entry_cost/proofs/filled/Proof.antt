@@ -4,7 +4,8 @@ use native.Mathlib.Omega.{arith}
 use borrow.Author.Needs.{needs}
 use Rattle.session.specs.Sound.{Sound}
 use Rattle.entries.specs.SoundAfter.{entered-sound}
-use Rattle.entries.specs.declared.{Entered.Entered}
+use Rattle.entries.specs.QuoteSound.{quoted-sound}
+use Rattle.entries.specs.declared.{Entered.Entered, Quoted.Quoted}
 use Rattle.entry_cost.proofs.filled.Statement.{statement}
 use Rattle.entry_cost.proofs.filled.Tie as tie
 
@@ -12,7 +13,7 @@ abbrev Inv-loop : tie.InvT-loop
 Inv-loop session₀ i₀ session i = Sound session
 
 abbrev μ-loop : tie.MeasureT-loop
-μ-loop session₀ i₀ session i = 511 - i
+μ-loop session₀ i₀ session i = 509 - i
 
 started-requires : tie.Need-started-requires Inv-loop μ-loop
 started-requires c κs = search needs
@@ -38,8 +39,17 @@ loop-again c =
     subst (λ (r : Entered). Sound (r .session)) (sym (c .before .order .ensures))
     (entered-sound _ _ (loop .inv))
 
+quote-of-requires : tie.Need-quote-of-requires Inv-loop μ-loop
+quote-of-requires c κs = search needs
+
+quote-requires : tie.Need-quote-requires Inv-loop μ-loop
+quote-requires c κs = c .before .before .loop .inv
+
 returns : tie.Need-returns Inv-loop μ-loop
-returns c = c .before .loop .inv
+returns c =
+    let loop = c .before .before .before .before .loop in
+    subst (λ (r : Quoted). Sound (r .session)) (sym (c .before .quote .ensures))
+    (quoted-sound _ _ (loop .inv))
 
 pub filled-spec : {M : Type 1} → statement M
 filled-spec =
@@ -54,4 +64,6 @@ filled-spec =
     add-i
     loop-less
     loop-again
+    quote-of-requires
+    quote-requires
     returns)
