@@ -12,4 +12,4 @@ pub mod Told
 pub mod Next
 pub mod TellLaws
 pub mod Underway
-pub mod Hinting
+pub mod InPlace

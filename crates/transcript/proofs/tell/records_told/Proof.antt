@@ -13,7 +13,7 @@ use Rattle.transcript.specs.declared.{Stepped.Stepped}
 use Rattle.transcript.specs.Transcript.{step}
 use Rattle.transcript.specs.Steps.{recordRoom, WroteStep, wrote-alone, quiet, does-found, wrote-as}
 use Rattle.transcript.specs.TellLaws.{next-record}
-use Rattle.transcript.specs.Hinting.{HintedIn, quotes-known, still-hinted, quote-hinted, stored-as, requoted-as}
+use Rattle.transcript.specs.InPlace.{HintedIn, quotes-known, still-hinted, quote-hinted, stored-as, requoted-as}
 use Rattle.transcript.specs.Underway.{Underway, underway-first, underway-next, underway-stop}
 use borrow.Author.Needs.{needs}
 use native.Mathlib.Omega.{arith}
