@@ -8,9 +8,61 @@ use places::mark;
 use places::unmark;
 use terms::Place;
 ghost use mathlib.Core.Path.{_≡_};
-ghost use Prim.Native.Nat.{_<_};
+ghost use Prim.Native.Nat.{_<_, _≤_, _+_};
+ghost use Rattle.book.specs.Groups.{hasNumber};
 ghost use Rattle.book.specs.Quotes.{quotePlaceIn, emptied, requoted, requotedWords};
 ghost use Rattle.terms.specs.Bounds.{places};
+
+// Places that are looked at together.
+const GROUP: usize = 16;
+
+// Whether one of sixteen places from one on holds a side of a quote: told together, so that the machine compares them at once.
+fn has_quote(quoted: &[u8; Place::COUNT], from: usize) -> bool
+    requires { ⌜ from + 16 ≤ places ⌝ }
+    ensures { λ r. ⌜ r ≡ hasNumber (now (quoted .entry)) 1 from 16 ⌝ }
+{
+    (quoted[from] == 1)
+        | (quoted[from + 1] == 1)
+        | (quoted[from + 2] == 1)
+        | (quoted[from + 3] == 1)
+        | (quoted[from + 4] == 1)
+        | (quoted[from + 5] == 1)
+        | (quoted[from + 6] == 1)
+        | (quoted[from + 7] == 1)
+        | (quoted[from + 8] == 1)
+        | (quoted[from + 9] == 1)
+        | (quoted[from + 10] == 1)
+        | (quoted[from + 11] == 1)
+        | (quoted[from + 12] == 1)
+        | (quoted[from + 13] == 1)
+        | (quoted[from + 14] == 1)
+        | (quoted[from + 15] == 1)
+}
+
+// The first of sixteen places from one on that holds a side of the member's quotes, or the place behind them.
+fn quote_in_group<'a>(
+    quoted: &'a [u8; Place::COUNT],
+    members: &'a [u16; Place::COUNT],
+    sides: &'a [u8; Place::COUNT],
+    member: u16,
+    side: u8,
+    from: usize,
+) -> usize
+    requires { ⌜ from + 16 ≤ places ⌝ }
+    ensures { λ r. ⌜ r ≡ quotePlaceIn (now (quoted .entry)) (now (members .entry)) (now (sides .entry)) member side from 16 ⌝ }
+{
+    let behind = from + GROUP;
+    let mut place: usize = from;
+    while place < behind {
+        if quoted[place] == 1 {
+            if (members[place] == member) & (sides[place] == side) {
+                return place;
+            }
+        }
+        place += 1;
+    }
+    behind
+}
 
 // The first place that holds a side of the member's quotes, or 512. Free places hold none.
 pub fn quote_place<'a>(
@@ -24,12 +76,13 @@ pub fn quote_place<'a>(
 {
     let mut place: usize = 0;
     while place < Place::COUNT {
-        if quoted[place] == 1 {
-            if (members[place] == member) & (sides[place] == side) {
-                return place;
+        if has_quote(quoted, place) {
+            let found = quote_in_group(quoted, members, sides, member, side, place);
+            if found < place + GROUP {
+                return found;
             }
         }
-        place += 1;
+        place += GROUP;
     }
     Place::COUNT
 }
