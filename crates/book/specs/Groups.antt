@@ -9,10 +9,9 @@ use native.Mathlib.Nat.{add-zero, add-suc, zero-add, suc-add}
 use native.Mathlib.Numerals.{towards-numerals}
 use native.Mathlib.Omega.{arith}
 use Rattle.lists.specs.Tests.{neither}
-use Rattle.book.specs.Quotes.{quotePlaceIn}
 use Rattle.book.specs.Resting.{placeIn, firstOr, firstOf, first-hit}
 
-abbrev hasAt : List ℕ → ℕ → ℕ → Bool
+abbrev pub hasAt : List ℕ → ℕ → ℕ → Bool
 hasAt numbers number place = eqb (getD numbers place 0) number
 
 -- whether one of n places from one on has this number
@@ -28,16 +27,6 @@ pub has-number-eight : (numbers : List ℕ) (number place : ℕ)
 unfolding hasNumber
 has-number-eight numbers number place = simp (or-assoc, or-false, towards-numerals)
 
--- .. of sixteen
-pub has-number-sixteen : (numbers : List ℕ) (number place : ℕ)
-    → hasAt numbers number place || hasAt numbers number (place + 1) || hasAt numbers number (place + 2) || hasAt numbers number (place + 3)
-    || hasAt numbers number (place + 4) || hasAt numbers number (place + 5) || hasAt numbers number (place + 6) || hasAt numbers number (place + 7)
-    || hasAt numbers number (place + 8) || hasAt numbers number (place + 9) || hasAt numbers number (place + 10) || hasAt numbers number (place + 11)
-    || hasAt numbers number (place + 12) || hasAt numbers number (place + 13) || hasAt numbers number (place + 14) || hasAt numbers number (place + 15)
-    ≡ hasNumber numbers number place 16
-unfolding hasNumber
-has-number-sixteen numbers number place = simp (or-assoc, or-false, towards-numerals)
-
 -- none of n places has the number: none of them is sought
 pub place-in-none : (taken numbers members : List ℕ) (number member n place : ℕ) → hasNumber numbers number place n ≡ false → place + n ≤ placeIn taken numbers members number member place n
 unfolding firstOf hasNumber
@@ -45,14 +34,6 @@ place-in-none taken numbers members number member zero place h = omega arith
 place-in-none taken numbers members number member (suc n) place h =
     let (here, later) = neither (hasAt numbers number place) (hasNumber numbers number (suc place) n) h in
     rw (here, and-false) (omega (arith, place-in-none taken numbers members number member n (suc place) later))
-
--- none of n places has a mark: none of them is the side sought
-pub quote-in-none : (quoted members sides : List ℕ) (member side n place : ℕ) → hasNumber quoted 1 place n ≡ false → place + n ≤ quotePlaceIn quoted members sides member side place n
-unfolding firstOf hasNumber
-quote-in-none quoted members sides member side zero place h = omega arith
-quote-in-none quoted members sides member side (suc n) place h =
-    let (here, later) = neither (hasAt quoted 1 place) (hasNumber quoted 1 (suc place) n) h in
-    rw here (omega (arith, quote-in-none quoted members sides member side n (suc place) later))
 
 module _ (test : ℕ → Bool) where
   -- found among n places: those behind them are not looked at

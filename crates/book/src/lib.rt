@@ -2,8 +2,6 @@
 // (01 "Numbers and their bounds"). A free place holds the empty value 0 in every column.
 mod columns;
 mod hints;
-mod quote_hints;
-mod quotes;
 mod settling;
 
 pub use columns::place_of;
@@ -16,16 +14,8 @@ pub use hints::HINTS;
 pub use hints::hint;
 pub use hints::hint_all;
 pub use hints::place_by_hint;
+pub use hints::wide;
 use places::WORDS;
-pub use quote_hints::QUOTE_HINTS;
-pub use quote_hints::quote_hint;
-pub use quote_hints::quote_hint_all;
-pub use quote_hints::quote_place_by_hint;
-pub use quotes::quote_place;
-pub use quotes::requote_words;
-pub use quotes::requote8;
-pub use quotes::requote16;
-pub use quotes::requote32;
 pub use settling::settled;
 use terms::Place;
 
@@ -50,10 +40,4 @@ pub struct Values {
     pub side: u8,
     pub validity: u8,
     pub quoted: u8,
-}
-
-// The places of a quote's two sides; 512 where one rests nowhere.
-pub struct Pair {
-    pub bid: usize,
-    pub ask: usize,
 }

@@ -18,7 +18,7 @@ use Rattle.terms.specs.declared.parameters.{Start.Start}
 use Rattle.terms.specs.declared.quotes.{QuoteEntry.QuoteEntry}
 use Rattle.places.specs.Places.{countTaken}
 use Rattle.book.specs.Resting.{resting, isOf}
-use Rattle.book.specs.Quotes.{withoutQuote}
+use Rattle.quotes.specs.Quotes.{withoutQuote}
 use Rattle.refusals.specs.Phases.{hasStarted, allowsOrder, allowsAuction}
 use Rattle.refusals.specs.Controls.{offStep, reachesCollar, reachesMost, reachesMostAtReference}
 use Rattle.refusals.specs.Checks.{Check, firstHit, answered-number, answered-not-done}

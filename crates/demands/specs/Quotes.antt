@@ -17,10 +17,10 @@ use Rattle.places.specs.Words.{lowest-free-clear, lowest-free-least}
 use Rattle.book.specs.Columns.{orderFrom, orderAt}
 use Rattle.book.specs.Resting.{resting, placeOf}
 use Rattle.book.specs.ByPlace.{resting-elim, resting-intro, place-found}
-use Rattle.book.specs.Quotes.{isQuoteOf, isQuoteSideOf}
+use Rattle.quotes.specs.Quotes.{isQuoteOf, isQuoteSideOf}
 use Rattle.book.specs.Writing.{SameAt, stored-taken, stored-order, stored-elsewhere}
 use Rattle.book.specs.Sound.{SoundBook, same-or-not}
-use Rattle.book.specs.Without.{without-elsewhere, without-sound, without-resting}
+use Rattle.quotes.specs.Without.{without-elsewhere, without-sound, without-resting}
 use Rattle.book.specs.Additions.{stored-resting}
 use Rattle.refusals.specs.Checks.{firstHit, answered-done}
 use Rattle.session.specs.declared.{Session.Session}

@@ -18,7 +18,8 @@ use Rattle.terms.specs.declared.quotes.{QuoteEntry.QuoteEntry, Quote.Quote}
 use Rattle.places.specs.Places.{lowestFree, countTaken, isShort, markedAt, unmarkedAt}
 use Rattle.places.specs.Words.{lowest-free-room}
 use Rattle.places.specs.Counts.{no-second-free}
-use Rattle.book.specs.declared.{Values.Values, Pair.Pair}
+use Rattle.book.specs.declared.{Values.Values}
+use Rattle.quotes.specs.declared.{Pair.Pair}
 use Rattle.book.specs.Columns.{valuesOf}
 use Rattle.refusals.specs.declared.phases.{Phase.Phase}
 use Rattle.refusals.specs.Checks.{Check, firstHit, answered, answered-refused, answered-done, answered-cases, hits, passes}

@@ -1,10 +1,10 @@
 // What a quote changes (02 K2).
-use book::Pair;
 use book::Values;
 use places::WORDS;
 use places::lowest_free;
 use places::mark;
 use places::unmark;
+use quotes::Pair;
 use refusals::Phase;
 use refusals::QUOTE_NUMBERS;
 use terms::Parameters;

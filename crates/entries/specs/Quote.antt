@@ -9,7 +9,7 @@ use Rattle.terms.specs.declared.quotes.{QuoteEntry.QuoteEntry}
 use Rattle.places.specs.Places.{lowestFree, isShort}
 use Rattle.book.specs.declared.{Book.Book}
 use Rattle.book.specs.Columns.{stored}
-use Rattle.book.specs.Quotes.{withoutQuote}
+use Rattle.quotes.specs.Quotes.{withoutQuote}
 use Rattle.refusals.specs.Checks.{Check, answered}
 use Rattle.refusals.specs.Rows.{quoteRows}
 use Rattle.session.specs.declared.{Session.Session}

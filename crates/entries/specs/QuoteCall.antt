@@ -11,10 +11,11 @@ use Rattle.terms.specs.Quotes.{quoteFrom}
 use Rattle.terms.specs.declared.orders.{Side.the-variants.Buy, Side.the-variants.Sell}
 use Rattle.terms.specs.declared.quotes.{QuoteEntry.QuoteEntry}
 use Rattle.places.specs.Places.{lowestFree, isShort, markedAt}
-use Rattle.book.specs.declared.{Book.Book, Pair.Pair}
+use Rattle.book.specs.declared.{Book.Book}
+use Rattle.quotes.specs.declared.{Pair.Pair}
 use Rattle.book.specs.Columns.{stored}
-use Rattle.book.specs.Quotes.{quotePlaces, withoutPair, quotePlaceIn, requotedBook}
-use Rattle.book.specs.Without.{quote-place-in, without-taken, requoted-stored}
+use Rattle.quotes.specs.Quotes.{quotePlaces, withoutPair, quotePlaceIn, requotedBook}
+use Rattle.quotes.specs.Without.{quote-place-in, without-taken, requoted-stored}
 use Rattle.refusals.specs.Checks.{Check, firstHit, answered-refused, answered-done, answered-cases}
 use Rattle.refusals.specs.Rows.{quoteRows}
 use Rattle.refusals.specs.Exactly.{clear}

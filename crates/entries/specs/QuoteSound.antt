@@ -17,9 +17,9 @@ use Rattle.places.specs.Places.{isTaken, isShort}
 use Rattle.book.specs.declared.{Book.Book, Values.Values}
 use Rattle.book.specs.Columns.{orderFrom, orderAt, stored}
 use Rattle.book.specs.Writing.{stored-order, stored-elsewhere}
-use Rattle.book.specs.Quotes.{isQuoteOf}
+use Rattle.quotes.specs.Quotes.{isQuoteOf}
 use Rattle.book.specs.Sound.{SoundOrder, SoundBook, SameQuote, NoQuoteAs, same-or-not, stored-sound}
-use Rattle.book.specs.Without.{without-sound, none-quoted}
+use Rattle.quotes.specs.Without.{without-sound, none-quoted}
 use Rattle.refusals.specs.Phases.{hasStarted}
 use Rattle.refusals.specs.Controls.{offStep}
 use Rattle.refusals.specs.Checks.{firstHit, answered-cases}

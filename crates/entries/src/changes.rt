@@ -2,14 +2,14 @@
 use book::put8;
 use book::put16;
 use book::put32;
-use book::requote_words;
-use book::requote8;
-use book::requote16;
-use book::requote32;
 use effects::Change;
 use effects::QuoteChange;
 use places::WORD_PLACES;
 use places::put_word;
+use quotes::requote_words;
+use quotes::requote8;
+use quotes::requote16;
+use quotes::requote32;
 use session::Session;
 ghost use mathlib.Core.Path.{_≡_};
 ghost use Prim.Native.Nat.{_<_};

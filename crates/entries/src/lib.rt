@@ -2,7 +2,6 @@
 // session after it (A1).
 mod changes;
 
-use book::Pair;
 use changes::changed;
 use changes::requoted;
 use effects::Effect;
@@ -11,6 +10,7 @@ use effects::QuoteEffect;
 use effects::delete_effect;
 use effects::order_effect;
 use effects::quote_effect;
+use quotes::Pair;
 use refusals::Phase;
 use session::Session;
 use terms::Entry;
@@ -129,14 +129,14 @@ pub fn quote(session: Session, e: QuoteEntry) -> Quoted
 {
     let phase = session.phase;
     let parameters = session.parameters;
-    let bid = book::quote_place(
+    let bid = quotes::quote_place(
         &session.book.quoted,
         &session.book.member,
         &session.book.side,
         e.member,
         Side::BUY,
     );
-    let ask = book::quote_place(
+    let ask = quotes::quote_place(
         &session.book.quoted,
         &session.book.member,
         &session.book.side,

@@ -5,10 +5,11 @@ use mathlib.Core.Path.{_≡_}
 use mathlib.Core.List.{List}
 use lib.ListN.{length, set}
 use Rattle.terms.specs.Bounds.{places}
-use Rattle.book.specs.declared.{Book.Book, Pair.Pair}
+use Rattle.book.specs.declared.{Book.Book}
+use Rattle.quotes.specs.declared.{Pair.Pair}
 use Rattle.places.specs.Places.{wordPlaces}
-use Rattle.book.specs.Quotes.{requoted, requotedWords}
-use Rattle.book.specs.QuoteHints.{quoteHints, Hinted, sound-one-quote, hinted-plain, hinted-requoted}
+use Rattle.quotes.specs.Quotes.{requoted, requotedWords}
+use Rattle.quotes.specs.QuoteHints.{quoteHints, Hinted, sound-one-quote, hinted-plain, hinted-requoted}
 use Rattle.session.specs.declared.{Session.Session}
 use Rattle.session.specs.State.{withBook}
 use Rattle.session.specs.Sound.{legalPrice, Sound}

@@ -40,9 +40,9 @@ use Rattle.entries.specs.Entry.{controlReference, entered, deleted}
 use Rattle.entries.specs.Quote.{quoted}
 use Rattle.entries.specs.QuoteCall.{requotedIn, oldIn, quoteIn, quotedBy, quoted-by, quote-placed}
 use Rattle.entries.specs.QuoteSound.{quoted-sound}
-use Rattle.book.specs.declared.{Pair.Pair}
-use Rattle.book.specs.Quotes.{quotePlaceIn}
-use Rattle.book.specs.QuoteHints.{OneQuoteIn, Hinted}
+use Rattle.quotes.specs.declared.{Pair.Pair}
+use Rattle.quotes.specs.Quotes.{quotePlaceIn}
+use Rattle.quotes.specs.QuoteHints.{OneQuoteIn, Hinted}
 use Rattle.entries.specs.Changes.{changed, orderIn, deleteIn, enteredBy, deletedBy, entered-by, deleted-by}
 use Rattle.lines.specs.declared.{words.Word.Word, Line.Line}
 
