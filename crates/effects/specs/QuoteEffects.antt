@@ -25,7 +25,7 @@ use Rattle.refusals.specs.declared.phases.{Phase.Phase}
 use Rattle.refusals.specs.Checks.{Check, firstHit, answered, answered-refused, answered-done, answered-cases, hits, passes}
 use Rattle.refusals.specs.Rows.{quoteRows, quoteLater}
 use Rattle.refusals.specs.Exactly.{clear}
-use Rattle.effects.specs.declared.quotes.{QuoteChange.QuoteChange, QuoteEffect.QuoteEffect}
+use Rattle.effects.specs.declared.quoting.{QuoteChange.QuoteChange, QuoteEffect.QuoteEffect}
 
 -- the words once the old sides are gone
 abbrev pub freedWords : List ℕ → Pair → List ℕ

@@ -1,15 +1,15 @@
 // What an order, a deletion and a quote change, found from the parts of a session that decide it: a refusal, or a change that whoever holds a session
 // stores in it.
-mod quotes;
+mod quoting;
 
 use book::Values;
 use places::WORD_PLACES;
 use places::WORDS;
 use places::with_bit;
 use places::without_bit;
-pub use quotes::QuoteChange;
-pub use quotes::QuoteEffect;
-pub use quotes::quote_effect;
+pub use quoting::QuoteChange;
+pub use quoting::QuoteEffect;
+pub use quoting::quote_effect;
 use refusals::Phase;
 use terms::Entry;
 use terms::Member;

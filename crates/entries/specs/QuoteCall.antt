@@ -19,7 +19,7 @@ use Rattle.quotes.specs.Without.{quote-place-in, without-taken, requoted-stored
 use Rattle.refusals.specs.Checks.{Check, firstHit, answered-refused, answered-done, answered-cases}
 use Rattle.refusals.specs.Rows.{quoteRows}
 use Rattle.refusals.specs.Exactly.{clear}
-use Rattle.effects.specs.declared.quotes.{QuoteChange.QuoteChange, QuoteEffect.QuoteEffect}
+use Rattle.effects.specs.declared.quoting.{QuoteChange.QuoteChange, QuoteEffect.QuoteEffect}
 use Rattle.effects.specs.QuoteEffects.{freedWords, freshPair, quoteChange, quoteEffect, fresh-places}
 use Rattle.session.specs.declared.{Session.Session}
 use Rattle.session.specs.State.{withBook}

@@ -14,7 +14,7 @@ use Rattle.session.specs.declared.{Session.Session}
 use Rattle.session.specs.State.{withBook}
 use Rattle.session.specs.Sound.{legalPrice, Sound}
 use Rattle.effects.specs.declared.{Change.Change}
-use Rattle.effects.specs.declared.quotes.{QuoteChange.QuoteChange}
+use Rattle.effects.specs.declared.quoting.{QuoteChange.QuoteChange}
 use Rattle.entries.specs.Changes.{changed}
 use Rattle.entries.specs.QuoteCall.{requotedIn}
 use Rattle.transcript.specs.Steps.{QuotesKnown}

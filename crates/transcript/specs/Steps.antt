@@ -34,7 +34,7 @@ use Rattle.terms.specs.declared.parameters.{Parameters.Parameters}
 use Rattle.refusals.specs.declared.phases.{Phase.Phase}
 use Rattle.effects.specs.declared.{Change.Change, Effect.Effect}
 use Rattle.effects.specs.Effects.{orderEffect, deleteEffect, order-place, order-plain, delete-place, delete-plain}
-use Rattle.effects.specs.declared.quotes.{QuoteChange.QuoteChange, QuoteEffect.QuoteEffect}
+use Rattle.effects.specs.declared.quoting.{QuoteChange.QuoteChange, QuoteEffect.QuoteEffect}
 use Rattle.effects.specs.QuoteEffects.{quoteEffect, TwoSides, two-sides}
 use Rattle.entries.specs.Entry.{controlReference, entered, deleted}
 use Rattle.entries.specs.Quote.{quoted}

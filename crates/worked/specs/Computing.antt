@@ -15,9 +15,10 @@ use Rattle.auction.specs.Outcome.{nonOpening, outcome}
 use Rattle.auction.specs.After.{restOf}
 use Rattle.refusals.specs.Checks.{firstHit}
 use Rattle.entries.specs.Entry.{started, entered, deleted}
+use Rattle.entries.specs.Quote.{quoted}
 use Rattle.answers.specs.Auctions.{outcomeOf, auctioned, theoretical}
 use Rattle.standings.specs.Queues.{queued, filledFront}
 
 unfoldable pub computing : Unit {0}
-unfolding apart bit least total marked unmarked stored cleared restingTo firstOf changedTo takingPart ranked front interest mostExecutable auctionPrice traded fills tradesOf nonOpening outcome restOf firstHit started entered deleted outcomeOf auctioned theoretical queued filledFront
+unfolding apart bit least total marked unmarked stored cleared restingTo firstOf changedTo takingPart ranked front interest mostExecutable auctionPrice traded fills tradesOf nonOpening outcome restOf firstHit started entered deleted quoted outcomeOf auctioned theoretical queued filledFront
 computing = tt

@@ -7,8 +7,8 @@ use Rattle.terms.specs.Bounds.{maxNumber}
 use Rattle.terms.specs.Made.{quote-good, quote-refused}
 use Rattle.terms.specs.Quotes.{isQuote, quoteFrom}
 use Rattle.effects.specs.QuoteEffects.{quote-out-of-range, quote-turned-down, numbers-left, quote-done}
-use Rattle.effects.proofs.quotes.quote_effect.Statement.{statement}
-use Rattle.effects.proofs.quotes.quote_effect.Tie as tie
+use Rattle.effects.proofs.quoting.quote_effect.Statement.{statement}
+use Rattle.effects.proofs.quoting.quote_effect.Tie as tie
 
 abbrev start : tie.After-known-told → tie.Start
 start k = k .before .before .before .before

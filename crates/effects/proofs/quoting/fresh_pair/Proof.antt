@@ -1,7 +1,7 @@
 use borrow.Author.Needs.{needs}
 use Rattle.effects.specs.QuoteEffects.{fresh-made}
-use Rattle.effects.proofs.quotes.fresh_pair.Statement.{statement}
-use Rattle.effects.proofs.quotes.fresh_pair.Tie as tie
+use Rattle.effects.proofs.quoting.fresh_pair.Statement.{statement}
+use Rattle.effects.proofs.quoting.fresh_pair.Tie as tie
 
 unmark-requires : tie.Need-unmark-requires
 unmark-requires c κs = search needs
