@@ -16,7 +16,11 @@ pub use hints::hint_all;
 pub use hints::place_by_hint;
 pub use hints::wide;
 use places::WORDS;
-pub use settling::settled;
+pub use settling::settle_left;
+pub use settling::settle_words;
+pub use settling::settle8;
+pub use settling::settle16;
+pub use settling::settle32;
 use terms::Place;
 
 pub struct Book {

@@ -3,6 +3,7 @@ mod words;
 
 pub use words::WORD_PLACES;
 pub use words::WORDS;
+pub use words::behind_taken;
 pub use words::bit_of;
 pub use words::count_taken;
 pub use words::lowest_free;

@@ -3,7 +3,7 @@ use terms::Place;
 ghost use mathlib.Core.Path.{_≡_};
 ghost use Prim.Native.Nat.{_<_, _≤_};
 ghost use lib.ListN.{set};
-ghost use Rattle.places.specs.Places.{wordPlaces, wordCount, bit, total, lowestFree, countTaken, withBit, withoutBit, markedAt, unmarkedAt};
+ghost use Rattle.places.specs.Places.{wordPlaces, wordCount, bit, total, lowestFree, countTaken, behindTaken, withBit, withoutBit, markedAt, unmarkedAt};
 ghost use Rattle.places.specs.Words.{LowClear};
 
 // Eight words of 64 places each.
@@ -57,6 +57,20 @@ pub fn count_taken(taken: [u64; WORDS]) -> usize
         j += 1;
     }
     n
+}
+
+// Behind the last word with a taken place: from there on all places are free.
+pub fn behind_taken(taken: &[u64; WORDS]) -> usize
+    ensures { λ r. ⌜ r ≡ behindTaken (now (taken .entry)) ⌝ }
+{
+    let mut j: usize = WORDS;
+    while j > 0 {
+        if taken[j - 1] != 0 {
+            return j * WORD_PLACES;
+        }
+        j -= 1;
+    }
+    0
 }
 
 pub fn with_bit(word: u64, k: usize) -> u64
