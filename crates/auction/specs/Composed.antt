@@ -1,19 +1,13 @@
--- An auction as its functions compose it: what they find step by step is its outcome, its trades and what they leave.
+-- An auction as its functions compose it: what they find step by step is its trades and what they leave.
 use Prim.Native.Nat.{ℕ, zero, suc, _+_, _≤_, min}
 use mathlib.Core.Path.{_≡_}
 use mathlib.Core.List.{List, [], _∷_}
 use native.Mathlib.Omega.{arith}
 use lib.ListN.{length}
-use Rattle.terms.specs.declared.orders.{Side.the-variants.Buy, Side.the-variants.Sell}
-use Rattle.queue.specs.RankNumbers.{rankBound, along}
+use Rattle.queue.specs.RankNumbers.{along}
 use Rattle.fills.specs.Shares.{lessened}
-use Rattle.price.specs.declared.search.{Found.Found}
-use Rattle.price.specs.Search.{sumBelow, offered, searchedIn}
-use Rattle.auction.specs.declared.{Outcome.Outcome}
-use Rattle.auction.specs.Outcome.{Held}
-use Rattle.auction.specs.Decided.{outcomeFrom}
 use Rattle.trades.specs.OverShares.{sharePairs, numbersLeft, sharesLeft, pairedShares}
-use Rattle.auction.specs.Trading.{sumsOf, sharesIn, outcomeIn, tradesIn, leftIn}
+use Rattle.auction.specs.Trading.{sharesIn, tradesIn, leftIn}
 
 -- There are no more trades than shares.
 few-pairs : (k : ℕ) (bn bq sn sq : List ℕ) → length (sharePairs k bn bq sn sq) ≤ k
@@ -39,13 +33,3 @@ pub left-composed : (quantity : ℕ) (lefts buys sells bought sold : List ℕ) �
     → lessened sells sold (lessened buys bought lefts) ≡ leftIn quantity lefts buys sells
 unfolding leftIn
 left-composed quantity lefts buys sells bought sold b s = rw (b, s)
-
--- Of sums found, the outcome: by the search, and by the unlimited quantity of each side.
-pub outcome-composed : (held : Held) (threshold reference : ℕ) (limits lefts buys sells demands supplies : List ℕ) → demands ≡ sumsOf lefts buys → supplies ≡ sumsOf lefts sells
-    → (found : Found) → found ≡ searchedIn reference (offered Buy buys demands) (offered Sell sells supplies) (along limits buys) (along limits sells)
-    → (bid : ℕ) → bid ≡ rankBound Buy 0 → (unlimited : ℕ) → unlimited ≡ sumBelow bid buys demands
-    → (ask : ℕ) → ask ≡ rankBound Sell 0 → (unlimited' : ℕ) → unlimited' ≡ sumBelow ask sells supplies
-    → (r : Outcome) → r ≡ outcomeFrom held threshold reference found unlimited unlimited'
-    → r ≡ outcomeIn held threshold reference limits lefts buys sells
-unfolding outcomeIn
-outcome-composed held threshold reference limits lefts buys sells demands supplies d s found f bid e unlimited u ask e' unlimited' u' r o = rw (o, f, u, u', e, e', d, s)

@@ -1,5 +1,5 @@
--- The outcome of a sound book, told by the ranks of its queues and the sums along them.
-use Prim.Native.Nat.{ℕ, zero, suc, _+_, _≤_, _<_}
+-- The outcome of a sound book, told by the ranks of its queues and what is open along them.
+use Prim.Native.Nat.{ℕ, zero, suc, _≤_, _<_}
 use mathlib.Core.Bool.{Bool}
 use mathlib.Core.Option.{some}
 use mathlib.Core.Logic.{_⊎_, inl, inr}
@@ -7,8 +7,7 @@ use mathlib.Core.Path.{_≡_, refl, sym, ap, _∙_}
 use mathlib.Core.List.{List, [], _∷_, map, map-map, map-congr-left, Memᴰ·map, Memᴰ·of-map, List·Memᴰ·head, List·Memᴰ·tail, List·Memᴰ·not-nil}
 use native.Mathlib.Omega.{arith}
 use lib.Dec.{T, ltb}
-use lib.ListN.{length, getD, take, length-map}
-use lib.Seq.{take-all}
+use lib.ListN.{getD}
 use Rattle.lists.specs.Sums.{_∈_}
 use Rattle.terms.specs.Kinds.{isPrice}
 use Rattle.terms.specs.Orders.{Resting, limitNumber, limitFrom, atPrice}
@@ -22,7 +21,6 @@ use Rattle.queue.specs.Part.{takingPart, takingPart-elim, takingPart-distinct}
 use Rattle.queue.specs.Distinct.{Distinct}
 use Rattle.queue.specs.Rank.{onSide, ranked, ranked-elim, ranked-intro}
 use Rattle.queue.specs.RankNumbers.{limitRoom, numberRoom, placeOfRank, rankBound, along}
-use Rattle.fills.specs.Shares.{sumsFrom}
 use Rattle.queue.specs.Reach.{resting-sound, resting-distinct}
 use Rattle.queue.specs.Queue.{price-room, allows-below, unlimited-below, ranks-known, ranked-by-ranks}
 use Rattle.price.specs.declared.search.{Found.Found}
@@ -36,12 +34,7 @@ use Rattle.trades.specs.TradesOf.{queue-left}
 use Rattle.auction.specs.NonOpening.{unlimited-front}
 use Rattle.auction.specs.Outcome.{Held, unlimited, outcome}
 use Rattle.auction.specs.Decided.{decided}
-use Rattle.auction.specs.Trading.{ranksOn, sumsOf, unlimitedIn, outcomeIn}
-
-sums-length : (total : ℕ) (xs : List ℕ) → length (sumsFrom total xs) ≡ suc (length xs)
-unfolding sumsFrom
-sums-length total [] = refl
-sums-length total (x ∷ xs) = ap suc (sums-length (total + x) xs)
+use Rattle.auction.specs.Trading.{ranksOn, unlimitedIn, outcomeIn}
 
 number-from : (l : ℕ) → l ≡ limitNumber (limitFrom l)
 number-from zero = refl
@@ -86,11 +79,8 @@ module _ (legal : ℕ → Bool) (given : ℕ) (b : Book) (sound : SoundBook lega
 
   -- A side: what it offers at a price, and its limits under their numbers.
   module _ (s : Side) where
-    abbrev sums : List ℕ
-    sums = sumsOf (b .left) (ranksOn b a s)
-
     abbrev offers : ℕ → ℕ
-    offers p = offered s (ranksOn b a s) sums p
+    offers p = offered s (b .left) (ranksOn b a s) p
 
     abbrev entries : List ℕ
     entries = along (b .limit) (ranksOn b a s)
@@ -98,14 +88,9 @@ module _ (legal : ℕ → Bool) (given : ℕ) (b : Book) (sound : SoundBook lega
     queue : map orderOf (ranksOn b a s) ≡ ranked s part
     queue = ranked-by-ranks legal given b sound few s a
 
-    sums-whole : take (length (ranksOn b a s) + 1) sums ≡ sums
-    sums-whole =
-        take-all (length (ranksOn b a s) + 1) sums
-        (omega (arith, sums-length 0 (along (b .left) (ranksOn b a s)), length-map (ranksOn b a s) (λ r. getD (b .left) (placeOfRank r) 0)))
-
     unlimited-on : unlimitedIn s (b .left) (ranksOn b a s) ≡ unlimited s part
     unlimited-on =
-        sum-below-front (λ o. isUnlimited (o .limit)) (rankBound s 0) orderOf (ranksOn b a s) sums sums-whole
+        sum-below-front (λ o. isUnlimited (o .limit)) (rankBound s 0) (b .left) orderOf (λ r. refl) (ranksOn b a s)
         (λ r m. let k = ranks-known legal given b sound few s a r m in
         ap (λ (x : ℕ). ltb x (rankBound s 0)) (k .is) ∙ unlimited-below legal given b sound few s (placeOfRank r) (k .here) (k .taken))
         (rw queue (unlimited-front s part distinct))
@@ -113,7 +98,7 @@ module _ (legal : ℕ → Bool) (given : ℕ) (b : Book) (sound : SoundBook lega
 
     offered-on : (p : ℕ) → (0 < p) × (p < limitRoom) → offers p ≡ interest s p part
     offered-on p (low, high) =
-        offered-is-interest s p part distinct orderOf (ranksOn b a s) sums queue sums-whole
+        offered-is-interest s p part distinct (b .left) orderOf (ranksOn b a s) (λ r. refl) queue
         (λ r m. let k = ranks-known legal given b sound few s a r m in
         ap (λ (x : ℕ). ltb x (rankBound s p)) (k .is) ∙ allows-below legal given b sound few s (placeOfRank r) (k .here) (k .taken) p low high)
 

@@ -8,10 +8,10 @@ use Rattle.lists.specs.Ranking.{rank, Ranked, rank-ranked}
 use Rattle.terms.specs.Bounds.{places}
 use Rattle.terms.specs.declared.orders.{Side.Side, Side.the-variants.Buy, Side.the-variants.Sell, Auction.Auction}
 use Rattle.book.specs.declared.Book.{Book}
-use Rattle.queue.specs.RankNumbers.{rankBound, ranksFrom, along}
+use Rattle.queue.specs.RankNumbers.{ranksFrom, along}
 use Rattle.queue.specs.Placing.{ranks-length, numbers-comparable}
-use Rattle.fills.specs.Shares.{sumsFrom, sharesOf, lessened}
-use Rattle.price.specs.Search.{sumBelow, offered, searchedIn}
+use Rattle.fills.specs.Shares.{sharesOf, lessened}
+use Rattle.price.specs.Search.{offered, searchedIn}
 use Rattle.trades.specs.declared.{Trade.Trade}
 use Rattle.auction.specs.declared.{Outcome.Outcome}
 use Rattle.auction.specs.Outcome.{Held}
@@ -23,21 +23,18 @@ use Rattle.trades.specs.OverShares.{pairedShares}
 abbrev pub ranksOn : Book → Auction → Side → List ℕ
 ranksOn b a s = rank leb (ranksFrom s a (b .side) (b .validity) (b .limit) (b .number) 0 places)
 
--- the sums of a queue's first orders, and what its orders get of a quantity
-abbrev pub sumsOf : List ℕ → List ℕ → List ℕ
-sumsOf lefts ranks = sumsFrom 0 (along lefts ranks)
-
+-- what a queue's orders get of a quantity
 abbrev pub sharesIn : ℕ → List ℕ → List ℕ → List ℕ
 sharesIn quantity lefts ranks = sharesOf quantity (along lefts ranks)
 
 -- the unlimited quantity of a queue
 abbrev pub unlimitedIn : Side → List ℕ → List ℕ → ℕ
-unlimitedIn s lefts ranks = sumBelow (rankBound s 0) ranks (sumsOf lefts ranks)
+unlimitedIn s lefts ranks = offered s lefts ranks 0
 
 unfoldable pub outcomeIn : Held → ℕ → ℕ → List ℕ → List ℕ → List ℕ → List ℕ → Outcome
 outcomeIn held threshold reference limits lefts buys sells =
     outcomeFrom held threshold reference
-    (searchedIn reference (offered Buy buys (sumsOf lefts buys)) (offered Sell sells (sumsOf lefts sells)) (along limits buys) (along limits sells))
+    (searchedIn reference (offered Buy lefts buys) (offered Sell lefts sells) (along limits buys) (along limits sells))
     (unlimitedIn Buy lefts buys) (unlimitedIn Sell lefts sells)
 
 unfoldable pub tradesIn : ℕ → List ℕ → List ℕ → List ℕ → List ℕ → List Trade

@@ -40,23 +40,9 @@ pub fn outcome_now<'a>(
     requires { ⌜ Ranked leb (now buys) × (length (now buys) ≤ places) × Ranked leb (now sells) × (length (now sells) ≤ places) ⌝ }
     ensures { λ r. ⌜ r ≡ outcomeIn (record { preventable = preventable; delayable = delayable }) threshold reference (now (limits .entry)) (now (lefts .entry)) (now (buys .entry)) (now (sells .entry)) ⌝ }
 {
-    let mut buy_room = [0u64; Place::COUNT + 1];
-    let mut sell_room = [0u64; Place::COUNT + 1];
-    fills::sum_up(buys, lefts, &mut buy_room);
-    fills::sum_up(sells, lefts, &mut sell_room);
-    let buy_sums = &buy_room[..buys.len() + 1];
-    let sell_sums = &sell_room[..sells.len() + 1];
-    let found = price::searched(reference, limits, buys, buy_sums, sells, sell_sums);
-    let unlimited_buys = price::sum_below(
-        queue::rank_bound(Side::Buy, Limit::UNLIMITED),
-        buys,
-        buy_sums,
-    );
-    let unlimited_sells = price::sum_below(
-        queue::rank_bound(Side::Sell, Limit::UNLIMITED),
-        sells,
-        sell_sums,
-    );
+    let found = price::searched(reference, limits, lefts, buys, sells);
+    let unlimited_buys = price::offer(Side::Buy, Limit::UNLIMITED, buys, lefts);
+    let unlimited_sells = price::offer(Side::Sell, Limit::UNLIMITED, sells, lefts);
     outcome_of(
         preventable,
         delayable,

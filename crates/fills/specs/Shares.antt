@@ -1,4 +1,4 @@
--- Sums and shares along a queue, over its open quantities alone: what the first orders have in all, and what each gets of a total.
+-- Shares along a queue, over its open quantities alone: what each order gets of a total.
 use Prim.Native.Nat.{ℕ, zero, suc, _+_, _-_, _<_, _≤_, min}
 use mathlib.Core.Logic.{_≢_}
 use mathlib.Core.Path.{_≡_, refl, sym, ap, _∙_}
@@ -6,13 +6,8 @@ use mathlib.Core.List.{List, [], _∷_, _++_, map, append-nil}
 use native.Mathlib.Numerals.{add-one}
 use native.Mathlib.Omega.{arith}
 use lib.ListN.{length, getD, set, take, drop, drop-of-length-le}
-use lib.Seq.{take-suc, take-suc-set, take-set-le, drop-cons, append-snoc}
+use lib.Seq.{take-suc-set, drop-cons, append-snoc}
 use Rattle.queue.specs.RankNumbers.{placeOfRank}
-
--- the sums of the first 0, 1, 2 .. entries, on top of a total
-unfoldable pub sumsFrom : ℕ → List ℕ → List ℕ
-sumsFrom total [] = total ∷ []
-sumsFrom total (x ∷ xs) = total ∷ sumsFrom (total + x) xs
 
 -- the quantities of `fill`
 unfoldable pub sharesOf : ℕ → List ℕ → List ℕ
@@ -39,18 +34,6 @@ shares-more (suc total) x xs n = let e : suc total - x ≡ suc total - min (suc 
 
 -- The loops, turn by turn: what is written and what is still to come are the whole.
 module _ (f : ℕ → ℕ) (ranks : List ℕ) (i total : ℕ) where
-  -- sums: entry i is the total so far
-  pub sums-step : (sums : List ℕ) (new : ℕ) → i < length ranks → i + 1 < length sums → getD sums i 0 ≡ total
-      → take (i + 1) (set sums (i + 1) new) ++ sumsFrom (total + f (getD ranks i 0)) (map f (drop (i + 1) ranks)) ≡ take i sums ++ sumsFrom total (map f (drop i ranks))
-  unfolding sumsFrom
-  sums-step sums new h k e =
-      rw (take-set-le (i + 1) sums (i + 1) new (omega arith), add-one, take-suc sums i 0 (omega arith), e, drop-cons ranks i 0 h)
-      (append-snoc (take i sums) total (sumsFrom (total + f (getD ranks i 0)) (map f (drop (suc i) ranks))))
-
-  pub sums-end : (sums : List ℕ) → length ranks ≡ i → i < length sums → getD sums i 0 ≡ total → take (length ranks + 1) sums ≡ take i sums ++ sumsFrom total (map f (drop i ranks))
-  unfolding sumsFrom
-  sums-end sums h k e = rw (h, add-one, take-suc sums i 0 k, e, drop-of-length-le ranks {i = i} (omega arith))
-
   -- shares: what is left of the total is still to be shared out
   pub shares-step : (list : List ℕ) → i < length ranks → i < length list → total ≢ 0
       → take (i + 1) (set list i (min total (f (getD ranks i 0)))) ++ sharesOf (total - min total (f (getD ranks i 0))) (map f (drop (i + 1) ranks)) ≡ take i list ++ sharesOf total (map f (drop i ranks))

@@ -3,6 +3,6 @@ mod front;
 mod shares;
 
 pub use front::front_length;
+pub use shares::left_at;
 pub use shares::lessen;
 pub use shares::share_out;
-pub use shares::sum_up;

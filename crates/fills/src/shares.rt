@@ -1,15 +1,15 @@
-// Sums and shares along a ranked queue: what the first orders have open in all, and what each gets of a total.
+// Shares along a ranked queue: what its orders have open, and what each gets of a total.
 use queue::place_of_rank;
 use terms::Place;
 ghost use mathlib.Core.Path.{_≡_};
-ghost use Prim.Native.Nat.{_+_, _-_, _<_, _≤_, min};
+ghost use Prim.Native.Nat.{_-_, _≤_, min};
 ghost use lib.ListN.{length, getD, take};
 ghost use Rattle.queue.specs.RankNumbers.{placeOfRank, along};
-ghost use Rattle.fills.specs.Shares.{sumsFrom, sharesOf, lessened};
+ghost use Rattle.fills.specs.Shares.{sharesOf, lessened};
 ghost use Rattle.terms.specs.Bounds.{places};
 
 // What the order of a rank has open.
-fn left_at(lefts: &[u32; Place::COUNT], r: u64) -> u32
+pub fn left_at(lefts: &[u32; Place::COUNT], r: u64) -> u32
     ensures { λ q. ⌜ q ≡ getD (now (lefts .entry)) (placeOfRank r) 0 ⌝ }
 {
     let place = place_of_rank(r);
@@ -32,21 +32,6 @@ fn less(left: u32, share: u32) -> u32
     ensures { λ r. ⌜ r ≡ left - share ⌝ }
 {
     if share <= left { left - share } else { 0 }
-}
-
-// What the first 0, 1, 2 .. orders of a queue have open in all, from the front of a list.
-pub fn sum_up<'a>(ranks: &'a [u64], lefts: &'a [u32; Place::COUNT], sums: &mut [u64])
-    requires { ⌜ (length (now ranks) ≤ places) × (length (now ranks) < length (now sums)) ⌝ }
-    ensures { λ r. ⌜ take (length (now (ranks .entry)) + 1) (now (sums .exit)) ≡ sumsFrom 0 (along (now (lefts .entry)) (now (ranks .entry))) ⌝ }
-{
-    let mut total: u64 = 0;
-    let mut i: usize = 0;
-    sums[0] = 0;
-    while i < ranks.len() {
-        total += left_at(lefts, ranks[i]) as u64;
-        i += 1;
-        sums[i] = total;
-    }
 }
 
 // What the orders of a queue get of a total, the first of it first, from the front of a list; how many get anything.

@@ -1,12 +1,12 @@
 -- The search: candidates weighed one after the other, against the chain over all of them.
-use Prim.Native.Nat.{ℕ, suc, min, max}
+use Prim.Native.Nat.{ℕ, _+_, min, max}
 use mathlib.Core.Bool.{Bool, cond, _&&_, _||_}
 use mathlib.Core.List.{List, [], _∷_}
 use lib.Dec.{eqb, ltb}
 use lib.ListN.{getD}
 use Rattle.lists.specs.Sums.{apart}
 use Rattle.terms.specs.declared.orders.{Side.Side}
-use Rattle.queue.specs.RankNumbers.{rankBound}
+use Rattle.queue.specs.RankNumbers.{rankBound, placeOfRank}
 use Rattle.price.specs.declared.weigh.{Weighed.Weighed}
 use Rattle.price.specs.declared.search.{Found.Found}
 
@@ -58,14 +58,11 @@ searchedIn reference demand supply bids asks =
     (weighAll reference demand supply bids
     (firstWeighed reference (min (demand reference) (supply reference)) (apart (demand reference) (supply reference)))))
 
--- how many of the first ranks are below a bound, and the sum of as many first orders
-unfoldable pub countBelow : ℕ → List ℕ → ℕ
-countBelow bound [] = 0
-countBelow bound (r ∷ ranks) = cond (ltb r bound) (suc (countBelow bound ranks)) 0
+-- what the orders with the first ranks below a bound have open in all
+unfoldable pub sumBelow : ℕ → List ℕ → List ℕ → ℕ
+sumBelow bound lefts [] = 0
+sumBelow bound lefts (r ∷ ranks) = cond (ltb r bound) (getD lefts (placeOfRank r) 0 + sumBelow bound lefts ranks) 0
 
-abbrev pub sumBelow : ℕ → List ℕ → List ℕ → ℕ
-sumBelow bound ranks sums = getD sums (countBelow bound ranks) 0
-
--- what a side offers at a price, by its ranks and the sums of its first orders
+-- what a side offers at a price, by its ranks; at no price, 0, what its unlimited orders have open
 abbrev pub offered : Side → List ℕ → List ℕ → ℕ → ℕ
-offered s ranks sums price = sumBelow (rankBound s price) ranks sums
+offered s lefts ranks price = sumBelow (rankBound s price) lefts ranks

@@ -28,16 +28,14 @@ weigh-limits-requires-2 : tie.Need-weigh-limits-requires-2
 weigh-limits-requires-2 c κs = search needs
 
 chosen-requires : tie.Need-chosen-requires
-chosen-requires c κs =
-    let pre = c .before .before .before .before .before .before .before .before .before .before .before .pre in
-    pre
+chosen-requires c κs = search needs
 
 returns : tie.Need-returns
 returns c =
     let w = c .before .before in
     let f = w .before in
     let o = f .before .before .before in
-    let a = o .before .before .before .before .before .before .args in
+    let a = o .before .before .before .before .args in
     searched-from _ _ _ (map (λ x. getD (a .limits .now) (placeOfRank x) 0) (a .buys .now)) (map (λ x. getD (a .limits .now) (placeOfRank x) 0) (a .sells .now)) (c .chosen .ensures) (c .before .weigh-limits2 .ensures) (w .weigh-limits .ensures) (f .first .ensures) (f .before .before .executable .ensures) (f .before .apart .ensures) (o .before .offer .ensures) (o .offer2 .ensures)
 
 pub searched-spec : {M : Type 1} → statement M
