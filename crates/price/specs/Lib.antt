@@ -10,7 +10,7 @@ pub mod Clause7
 pub mod Legal
 -- as the code computes it
 pub mod Search
+pub mod SearchFinds
 pub mod Weighing
 pub mod Below
 pub mod Ladder
-pub mod SearchFinds

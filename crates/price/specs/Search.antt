@@ -39,9 +39,12 @@ weighed reference price demand supply w =
     (cond (ties (min demand supply) (apart demand supply) w) (joined reference price w) w)
 
 -- limits as candidates, one after the other; 0 is unlimited and none
+abbrev pub weighLimit : ℕ → (ℕ → ℕ) → (ℕ → ℕ) → ℕ → Weighed → Weighed
+weighLimit reference demand supply l w = cond (eqb l 0) w (weighed reference l (demand l) (supply l) w)
+
 unfoldable pub weighAll : ℕ → (ℕ → ℕ) → (ℕ → ℕ) → List ℕ → Weighed → Weighed
 weighAll reference demand supply [] w = w
-weighAll reference demand supply (l ∷ ls) w = weighAll reference demand supply ls (cond (eqb l 0) w (weighed reference l (demand l) (supply l) w))
+weighAll reference demand supply (l ∷ ls) w = weighAll reference demand supply ls (weighLimit reference demand supply l w)
 
 -- steps 3 and 4: demand exceeds supply at all that are left where it does at the highest, and supply demand where it does at the lowest
 abbrev pub foundIn : (ℕ → ℕ) → (ℕ → ℕ) → Weighed → Found

@@ -6,7 +6,7 @@ use mathlib.Core.Logic.{_⊎_, inl, inr, ⊎-elim, ⊎-map, _≢_}
 use mathlib.Core.Path.{_≡_, refl, sym, ap, _∙_}
 use mathlib.Core.List.{List, [], _∷_, List·Memᴰ·head, List·Memᴰ·tail, List·Memᴰ·not-nil}
 use lib.Dec.{leb, ltb, eqb}
-use borrow.Author.Tests.{ltb-true, ltb-false, eqb-true, eqb-false}
+use borrow.Author.Tests.{ltb-true, ltb-false, le-ltb, eqb-true, eqb-false}
 use native.Mathlib.Omega.{arith}
 use Rattle.lists.specs.Tests.{tests, decided, same-test}
 use Rattle.lists.specs.Sums.{_∈_, apart}
@@ -131,6 +131,22 @@ module _ (f g : ℕ → ℕ) (reference : ℕ) (cs : List ℕ) where
         );
       })
       (worse-taken w p)
+
+  -- what is taken in changes nothing when it comes again
+  taken-stays : (p : ℕ) (w : Weighed) → Weighs w p → stepped reference p (f p) (g p) w ≡ w
+  taken-stays p w h = stepped-elim (λ v. v ≡ w) reference p (f p) (g p) w
+      (λ k. absurd (⊎-elim (λ m. omega (arith, h .no-more)) (λ m. omega (arith, h .no-less (m .0))) k))
+      (λ i k. let (l, u, n) = h .within i k in
+      let top : max (w .high) p ≡ w .high = omega arith in
+      let bottom : min (w .low) p ≡ w .low = omega arith in
+      rw (top, bottom, le-ltb (apart reference p) (apart reference (w .near)) n))
+      (λ k. refl)
+
+-- A candidate weighed twice is as one weighed once.
+pub weighed-twice : (reference price demand supply : ℕ) (w : Weighed) → weighed reference price demand supply (weighed reference price demand supply w) ≡ weighed reference price demand supply w
+unfolding weighed
+weighed-twice reference price demand supply w =
+    taken-stays (λ p. min demand supply) (λ p. apart demand supply) reference [] price _ (step-takes (λ p. min demand supply) (λ p. apart demand supply) reference [] price w)
 
 pinned : (m n : ℕ) → m ≤ n → n ≤ m → m ≡ n
 pinned m n h k = omega arith

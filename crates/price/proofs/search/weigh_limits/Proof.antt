@@ -1,29 +1,25 @@
 -- The loop's invariant: what the limits to come make of w is what all of them make of the start; demand and supply are fronts.
-use Prim.Native.Nat.{_-_, _≤_}
-use mathlib.Core.Logic.{⊎-elim}
-use mathlib.Core.Path.{_≡_, refl, sym, _∙_}
-use native.Mathlib.Omega.{arith}
+use Prim.Native.Nat.{_-_}
 use borrow.Author.Needs.{needs}
 use lib.ListN.{length, getD}
 use Rattle.terms.specs.declared.orders.{Side.the-variants.Buy, Side.the-variants.Sell}
 use Rattle.queue.specs.RankNumbers.{placeOfRank}
 use Rattle.price.specs.Search.{offered}
 use Rattle.price.specs.Below.{IsFront, front-none}
-use Rattle.price.specs.Weighing.{weighFrom, from-unlimited, from-limited, from-end}
+use Rattle.price.specs.Weighing.{WeighedTo, to-start, to-passed, to-weighed, to-end}
 use Rattle.price.proofs.search.weigh_limits.Statement.{statement}
 use Rattle.price.proofs.search.weigh_limits.Tie as tie
 
 abbrev Inv-loop : tie.InvT-loop
-Inv-loop reference ranks limits lefts buys sells w₀ demand₀ supply₀ i₀ w demand supply i =
-    (i ≤ length ranks) × (weighFrom reference (offered Buy lefts buys) (offered Sell lefts sells) (λ x. getD limits (placeOfRank x) 0) ranks 0 w₀
-    ≡ weighFrom reference (offered Buy lefts buys) (offered Sell lefts sells) (λ x. getD limits (placeOfRank x) 0) ranks i w)
+Inv-loop reference ranks limits lefts buys sells w₀ last₀ demand₀ supply₀ i₀ w last demand supply i =
+    WeighedTo reference (offered Buy lefts buys) (offered Sell lefts sells) (λ x. getD limits (placeOfRank x) 0) ranks w₀ i last w
     × IsFront lefts buys (demand .count) (demand .total) × IsFront lefts sells (supply .count) (supply .total)
 
 abbrev μ-loop : tie.MeasureT-loop
-μ-loop reference ranks limits lefts buys sells w₀ demand₀ supply₀ i₀ w demand supply i = length ranks - i
+μ-loop reference ranks limits lefts buys sells w₀ last₀ demand₀ supply₀ i₀ w last demand supply i = length ranks - i
 
 loop-holds : tie.Need-loop-holds Inv-loop μ-loop
-loop-holds c = (omega arith, refl, front-none _ _, front-none _ _)
+loop-holds c = (to-start _ _ _ _ _ _, front-none _ _, front-none _ _)
 
 mul-place-of-rank : tie.Need-mul-place-of-rank Inv-loop μ-loop
 mul-place-of-rank c = search needs
@@ -40,6 +36,9 @@ mul-limit c = search needs
 element-copy-out-limit : tie.Need-element-copy-out-limit Inv-loop μ-loop
 element-copy-out-limit c = search needs
 
+add-i : tie.Need-add-i Inv-loop μ-loop
+add-i c = search needs
+
 front-at-requires : tie.Need-front-at-requires Inv-loop μ-loop
 front-at-requires c κs = search needs
 
@@ -49,32 +48,32 @@ front-at-requires-2 c κs = search needs
 weigh-requires : tie.Need-weigh-requires Inv-loop μ-loop
 weigh-requires c κs = search needs
 
-add-i : tie.Need-add-i Inv-loop μ-loop
-add-i c = search needs
-
 loop-less : tie.Need-loop-less Inv-loop μ-loop
 loop-less c = search needs
 
 loop-again : tie.Need-loop-again Inv-loop μ-loop
 loop-again c =
-    let l = c .before .before .before .before .before in
-    let a = l .before .before .before .before .args in
-    let p = c .before .before .place-of-rank in
-    let here : getD (a .limits .now) (p .result) 0 ≡ getD (a .limits .now) (placeOfRank (getD (a .ranks .now) (l .loop .i) 0)) 0 = rw (p .ensures .0) in (
-      omega arith,
-      l .loop .inv .1 ∙ ⊎-elim
-          (λ t. from-limited _ _ _ (λ x. getD (a .limits .now) (placeOfRank x) 0) (a .ranks .now) (l .loop .i) (l .loop .w) (c .if1 .w) (getD (a .limits .now) (p .result) 0) _ _ (omega arith) here (t .0 .taken) (t .1 .ensures .1) (t .2 .ensures .1) (t .4 ∙ t .3 .ensures))
-          (λ t. from-unlimited _ _ _ (λ x. getD (a .limits .now) (placeOfRank x) 0) (a .ranks .now) (l .loop .i) (l .loop .w) (c .if1 .w) (getD (a .limits .now) (p .result) 0) (omega arith) here (t .0 .left) (t .1))
-          (c .if1 .came),
-      ⊎-elim (λ t. rw (t .5) (t .1 .ensures .0)) (λ t. rw (t .2) (l .loop .inv .2)) (c .if1 .came),
-      ⊎-elim (λ t. rw (t .6) (t .2 .ensures .0)) (λ t. rw (t .3) (l .loop .inv .3)) (c .if1 .came),
+    let t = c .before .before .before in
+    let p = t .before .before in
+    let l = p .before .before .before in
+    let a = l .before .before .before .before .args in (
+      rw (c .weigh .ensures) (to-weighed _ _ _ _ (a .ranks .now) _ (l .loop .i) (l .loop .last) (l .loop .w) (l .loop .inv .0) (getD (a .limits .now) (p .place-of-rank .result) 0) (p .before .before .loop-test .taken) (rw (p .place-of-rank .ensures .0)) (t .if1 .taken) _ _ (c .before .before .front-at .ensures .1) (c .before .front-at2 .ensures .1)),
+      c .before .before .front-at .ensures .0,
+      c .before .front-at2 .ensures .0,
     )
 
-returns : tie.Need-returns Inv-loop μ-loop
-returns c =
-    let l = c .before in
+loop-less-2 : tie.Need-loop-less-2 Inv-loop μ-loop
+loop-less-2 c = search needs
+
+loop-again-2 : tie.Need-loop-again-2 Inv-loop μ-loop
+loop-again-2 c =
+    let p = c .before .before in
+    let l = p .before .before .before in
     let a = l .before .before .before .before .args in
-    sym (l .loop .inv .1 ∙ from-end _ _ _ (λ x. getD (a .limits .now) (placeOfRank x) 0) (a .ranks .now) (l .loop .i) (l .loop .w) (c .loop-test .left))
+    (to-passed _ _ _ _ (a .ranks .now) _ (l .loop .i) (l .loop .last) (l .loop .w) (l .loop .inv .0) (getD (a .limits .now) (p .place-of-rank .result) 0) (p .before .before .loop-test .taken) (rw (p .place-of-rank .ensures .0)) (c .if1 .left), l .loop .inv .1, l .loop .inv .2)
+
+returns : tie.Need-returns Inv-loop μ-loop
+returns c = let l = c .before in to-end _ _ _ _ (l .before .before .before .before .args .ranks .now) _ (l .loop .i) (l .loop .last) (l .loop .w) (l .loop .inv .0) (c .loop-test .left)
 
 pub weigh-limits-spec : {M : Type 1} → statement M
 weigh-limits-spec =
@@ -88,10 +87,12 @@ weigh-limits-spec =
     place-of-rank-requires
     mul-limit
     element-copy-out-limit
+    add-i
     front-at-requires
     front-at-requires-2
     weigh-requires
-    add-i
     loop-less
     loop-again
+    loop-less-2
+    loop-again-2
     returns)
