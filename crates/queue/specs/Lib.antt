@@ -10,6 +10,7 @@ pub mod Distinct
 -- as the code computes it
 pub mod RankNumbers
 pub mod Insertion
+pub mod Merging
 pub mod Placing
 pub mod Keys
 pub mod Queue

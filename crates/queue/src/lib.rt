@@ -1,5 +1,6 @@
 // The queue: who takes part, and at what rank (01 "Who takes part, and at what rank").
 mod listed;
+mod merging;
 mod ranks;
 
 pub use listed::list_numbers;
