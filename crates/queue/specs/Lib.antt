@@ -9,9 +9,8 @@ pub mod Examples
 pub mod Distinct
 -- as the code computes it
 pub mod RankNumbers
-pub mod Insertion
-pub mod Merging
 pub mod Placing
+pub mod Merging
 pub mod Keys
 pub mod Queue
 pub mod Reach
