@@ -1,3 +1,4 @@
+use Prim.Native.Nat.{_≤_}
 use mathlib.Core.Bool.{true}
 use mathlib.Core.Path.{_≡_, sym, ap, _∙_}
 use mathlib.Core.List.{map}
@@ -5,10 +6,12 @@ use native.Mathlib.Omega.{arith}
 use lib.ListN.{length, take}
 use lib.Seq.{length-take-le}
 use borrow.Author.Needs.{needs}
+use Rattle.terms.specs.Bounds.{places}
 use Rattle.terms.specs.Made.{side-good, side-refused, auction-good, auction-refused}
 use Rattle.terms.specs.Orders.{isSide, sideFrom, isAuction, auctionFrom}
 use Rattle.book.specs.Columns.{orderAt}
 use Rattle.queue.specs.RankNumbers.{placeOfRank}
+use Rattle.queue.specs.Placing.{ranks-fit}
 use Rattle.queue.specs.Queue.{ranked-by-ranks}
 use Rattle.session.specs.Sound.{legalPrice, number-room}
 use Rattle.standings.specs.QueueCalls.{queue-out-of-range, queue-turned-down, queue-room, queue-listed}
@@ -30,6 +33,13 @@ called k = auction-good (start (first k) .args .which) (sym (k .before .auction 
 -- not refused: the checks behind the first one are passed
 abbrev passed : tie.After-ranked → tie.Else1
 passed r = r .before .before .before .before .before .before .before
+
+-- no more take part than there are places
+few : (r : tie.After-ranked) → r .ranked .result ≤ places
+few r =
+    let k = passed r .before .before in
+    let b = start (first k) .args .t1 .book in
+    omega (arith, r .ranked .ensures .0, ranks-fit (first k .before .on .given .0 .0) (k .before .auction .given .0 .0) (b .side) (b .validity) (b .limit) (b .number))
 
 new-requires : tie.Need-new-requires
 new-requires c κs = search needs
@@ -74,15 +84,18 @@ slice-aggregate-ranked : tie.Need-slice-aggregate-ranked
 slice-aggregate-ranked c = search needs
 
 ranked-requires : tie.Need-ranked-requires
-ranked-requires c κs = search needs
+ranked-requires c κs =
+    let k = c .before .before .before .before .before .before .before .before in
+    let b = start (first k) .args .t1 .book in
+    ranks-fit (first k .before .on .given .0 .0) (k .before .auction .given .0 .0) (b .side) (b .validity) (b .limit) (b .number)
 
 array-share-prefix-ranks : tie.Need-array-share-prefix-ranks
-array-share-prefix-ranks c = search needs
+array-share-prefix-ranks c = let h = few (c .before .before) in search needs
 
 slice-aggregate-list-numbers : tie.Need-slice-aggregate-list-numbers
 slice-aggregate-list-numbers c =
-    let ranked = c .before .before .before .ranked in
-    sym (length-take-le (ranked .result) (ranked .last .0) (omega (arith, ranked .kept .0, ranked .ensures .0)))
+    let r = c .before .before .before in
+    sym (length-take-le (r .ranked .result) (r .ranked .last .0) (omega (arith, r .ranked .kept .0, few r)))
 
 list-numbers-requires : tie.Need-list-numbers-requires
 list-numbers-requires c κs =
@@ -93,13 +106,13 @@ list-numbers-requires c κs =
     let a = start (first k) .args in
     omega (
       arith,
-      length-take-le (ranked .result) (ranked .last .0) (omega (arith, ranked .kept .0, ranked .ensures .0)),
-      ranked .ensures .0,
+      length-take-le (ranked .result) (ranked .last .0) (omega (arith, ranked .kept .0, few r)),
+      few r,
       queue-room (a .t1) (a .side) (a .which) (a .list .now) (sided (first k)) (called k) (i .before .ranked-refusal .ensures) (i .if1 .left),
     )
 
 cast-t28 : tie.Need-cast-t28
-cast-t28 c = search needs
+cast-t28 c = let h = few (c .before .before .before .before .before .before .before .before) in search needs
 
 same-length : tie.Need-same-length
 same-length c = search needs
@@ -114,7 +127,7 @@ returns-4 c =
     let a = begin .args in
     let n = ranked .result in
     let ranks = take n (ranked .last .0) in
-    let long : length ranks ≡ n = length-take-le n (ranked .last .0) (omega (arith, ranked .kept .0, ranked .ensures .0)) in
+    let long : length ranks ≡ n = length-take-le n (ranked .last .0) (omega (arith, ranked .kept .0, few r)) in
     rw (← long, c .before .before .list-numbers .ensures)
     (queue-listed (a .t1) (a .side) (a .which) (a .list .now) (sided (first k)) (called k) (i .before .ranked-refusal .ensures) (i .if1 .left) ranks
     (ap (map (λ r. orderAt (a .t1 .book) (placeOfRank r))) (ranked .ensures .1)
