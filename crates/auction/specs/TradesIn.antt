@@ -1,6 +1,6 @@
 -- The trades of a sound book and what rests at each place, told by the ranks of its queues.
 use Prim.Native.Nat.{ℕ, zero, suc, _+_, _-_, _≤_, _<_}
-use mathlib.Core.Bool.{Bool, true}
+use mathlib.Core.Bool.{Bool, true, false, cond}
 use mathlib.Core.Logic.{_≢_}
 use mathlib.Core.Path.{_≡_, refl, sym, ap, _∙_}
 use mathlib.Core.List.{List, [], _∷_, _++_, map, map-map}
@@ -11,16 +11,18 @@ use lib.ListN.{length, getD, take, drop, length-map, take-append-drop}
 use Rattle.lists.specs.Tests.{same-test}
 use Rattle.lists.specs.Sums.{_∈_, counted, sum-none}
 use Rattle.terms.specs.Bounds.{places}
-use Rattle.terms.specs.Orders.{Resting}
+use Rattle.terms.specs.Orders.{Resting, validityFrom}
 use Rattle.terms.specs.declared.orders.{Side.Side, Side.the-variants.Buy, Side.the-variants.Sell, Auction.Auction}
 use Rattle.terms.specs.Sides.{sameSide-eq}
 use Rattle.book.specs.declared.Book.{Book}
-use Rattle.places.specs.Places.{isTaken}
+use Rattle.book.specs.declared.Values.{Values}
+use Rattle.places.specs.Places.{isTaken, behindTaken}
+use Rattle.places.specs.Words.{behind-within, behind-free}
 use Rattle.book.specs.Columns.{valuesAt, orderAt}
 use Rattle.book.specs.Resting.{resting, changed}
 use Rattle.book.specs.ByPlace.{resting-elim}
 use Rattle.book.specs.Sound.{SoundBook}
-use Rattle.book.specs.Settling.{settled, restFrom, settled-changed}
+use Rattle.book.specs.Settling.{settledTo, restFrom, settled-changed}
 use Rattle.queue.specs.Part.{takingPart, takingPart-elim, takingPart-distinct}
 use Rattle.queue.specs.Distinct.{Distinct}
 use Rattle.queue.specs.Rank.{ranked, ranked-elim}
@@ -33,9 +35,9 @@ use Rattle.fills.specs.ShareFills.{shares-fill, fill-orders, sharedAt, lessened
 use Rattle.price.specs.Interest.{interest}
 use Rattle.trades.specs.Trades.{traded}
 use Rattle.trades.specs.TradesOf.{fills, tradesOf, trades-filled}
-use Rattle.auction.specs.After.{restOf}
+use Rattle.auction.specs.After.{ends, restOf}
 use Rattle.trades.specs.OverShares.{share-pairs}
-use Rattle.auction.specs.Ended.{ended-at, rest-from}
+use Rattle.auction.specs.Ended.{restWith, ended-at, rest-from}
 use Rattle.auction.specs.Trading.{ranksOn, sharesIn, tradesIn, leftIn, restsIn}
 
 front-map : {A B : Type 0} (f : A → B) (n : ℕ) (xs : List A) → take n (map f xs) ≡ map f (take n xs)
@@ -86,6 +88,41 @@ module _ (legal : ℕ → Bool) (given : ℕ) (b : Book) (sound : SoundBook lega
       rw (shares-on quantity Buy, shares-on quantity Sell, numbers-on quantity Buy, numbers-on quantity Sell, length-map (fills Buy quantity part) (λ x. x .quantity), length-map (fills Sell quantity part) (λ x. x .quantity))
       (share-pairs (fills Buy quantity part) (fills Sell quantity part) _ _)
 
+  -- what the trades leave at a place, as the shares lessen it, and what rests there
+  module _ (quantity : ℕ) where
+    abbrev shares : Side → List ℕ
+    shares s = sharesIn quantity (b .left) (ranksOn b a s)
+
+    abbrev lefts : List ℕ
+    lefts = leftIn quantity (b .left) (ranksOn b a Buy) (ranksOn b a Sell)
+
+    abbrev rests : List ℕ
+    rests = restsIn a quantity (b .validity) (b .left) (ranksOn b a Buy) (ranksOn b a Sell)
+
+    left-long : length lefts ≡ places
+    unfolding leftIn
+    left-long = lessened-length (ranksOn b a Sell) _ (lessened (ranksOn b a Buy) _ (b .left)) ∙ lessened-length (ranksOn b a Buy) _ (b .left) ∙ sound .sized .left
+
+    left-less : (p : ℕ) → p < places → getD lefts p 0 ≡ getD (b .left) p 0 - sharedAt (ranksOn b a Buy) (shares Buy) p - sharedAt (ranksOn b a Sell) (shares Sell) p
+    unfolding leftIn
+    left-less p here =
+        lessened-at (ranksOn b a Sell) (shares Sell) (lessened (ranksOn b a Buy) (shares Buy) (b .left)) p (omega (arith, lessened-length (ranksOn b a Buy) (shares Buy) (b .left), sound .sized .left))
+        ∙ ap (λ (n : ℕ). n - sharedAt (ranksOn b a Sell) (shares Sell) p) (lessened-at (ranksOn b a Buy) (shares Buy) (b .left) p (omega (arith, sound .sized .left)))
+
+    rest-with : (p : ℕ) → p < places → getD rests p 0 ≡ restWith a (getD (b .validity) p 0) (getD lefts p 0)
+    rest-with p here = ended-at a (b .validity) lefts p here (omega (arith, left-long))
+
+    -- nothing at a free place
+    rest-free : (p : ℕ) → p < places → isTaken (b .taken) p ≡ false → getD rests p 0 ≡ 0
+    rest-free p here free = rest-with p here ∙ rw nothing (none-left (ends a (validityFrom (getD (b .validity) p 0))))
+      where
+        nothing : getD lefts p 0 ≡ 0
+        nothing = omega (arith, left-less p here, ap (λ (r : Values). r .left) (sound .each p here .free free))
+
+        none-left : (e : Bool) → _≡_ {A = ℕ} (cond e 0 0) 0
+        none-left true = refl
+        none-left false = refl
+
   -- places tell the orders of a book apart as numbers do
   module _ (p : ℕ) (here : p < places) (taken : isTaken (b .taken) p ≡ true) where
     same-order : (s : Side) (r : ℕ) → r ∈ ranksOn b a s → eqb (placeOfRank r) p ≡ eqb (orderOf r .number) (orderAt b p .number)
@@ -120,39 +157,22 @@ module _ (legal : ℕ → Bool) (given : ℕ) (b : Book) (sound : SoundBook lega
       distinct = takingPart-distinct a (resting b) (resting-distinct legal given b sound)
 
       -- what the trades leave at the place
-      left-at : getD (leftIn quantity (b .left) (ranksOn b a Buy) (ranksOn b a Sell)) p 0 ≡ orderAt b p .left - traded (orderAt b p .side) (orderAt b p .number) (tradesOf quantity part)
-      unfolding leftIn
+      left-at : getD (lefts quantity) p 0 ≡ orderAt b p .left - traded (orderAt b p .side) (orderAt b p .number) (tradesOf quantity part)
       left-at = go (orderAt b p .side) refl
         where
-          bought : List ℕ
-          bought = sharesIn quantity (b .left) (ranksOn b a Buy)
-
-          sold : List ℕ
-          sold = sharesIn quantity (b .left) (ranksOn b a Sell)
-
-          both : getD (lessened (ranksOn b a Sell) sold (lessened (ranksOn b a Buy) bought (b .left))) p 0
-              ≡ getD (b .left) p 0 - sharedAt (ranksOn b a Buy) bought p - sharedAt (ranksOn b a Sell) sold p
-          both =
-              lessened-at (ranksOn b a Sell) sold (lessened (ranksOn b a Buy) bought (b .left)) p (omega (arith, lessened-length (ranksOn b a Buy) bought (b .left), sound .sized .left))
-              ∙ ap (λ (n : ℕ). n - sharedAt (ranksOn b a Sell) sold p) (lessened-at (ranksOn b a Buy) bought (b .left) p (omega (arith, sound .sized .left)))
-
-          go : (t : Side) → orderAt b p .side ≡ t
-              → getD (lessened (ranksOn b a Sell) sold (lessened (ranksOn b a Buy) bought (b .left))) p 0 ≡ orderAt b p .left - traded t (orderAt b p .number) (tradesOf quantity part)
-          go Buy e = omega (arith, both, shared-on quantity Buy, trades-filled price quantity part distinct enough Buy (orderAt b p .number), shared-on quantity Sell, other-fill quantity Sell (λ i. apart-sides (i ∙ e)))
-          go Sell e = omega (arith, both, shared-on quantity Sell, trades-filled price quantity part distinct enough Sell (orderAt b p .number), shared-on quantity Buy, other-fill quantity Buy (λ i. apart-sides (sym (i ∙ e))))
-
-      left-long : length (leftIn quantity (b .left) (ranksOn b a Buy) (ranksOn b a Sell)) ≡ places
-      unfolding leftIn
-      left-long = lessened-length (ranksOn b a Sell) _ (lessened (ranksOn b a Buy) _ (b .left)) ∙ lessened-length (ranksOn b a Buy) _ (b .left) ∙ sound .sized .left
+          go : (t : Side) → orderAt b p .side ≡ t → getD (lefts quantity) p 0 ≡ orderAt b p .left - traded t (orderAt b p .number) (tradesOf quantity part)
+          go Buy e = omega (arith, left-less quantity p here, shared-on quantity Buy, trades-filled price quantity part distinct enough Buy (orderAt b p .number), shared-on quantity Sell, other-fill quantity Sell (λ i. apart-sides (i ∙ e)))
+          go Sell e = omega (arith, left-less quantity p here, shared-on quantity Sell, trades-filled price quantity part distinct enough Sell (orderAt b p .number), shared-on quantity Buy, other-fill quantity Buy (λ i. apart-sides (sym (i ∙ e))))
 
       -- .. and what rests there
-      rest-at : restOf a (tradesOf quantity part) (orderAt b p) ≡ restFrom (getD (restsIn a quantity b (ranksOn b a Buy) (ranksOn b a Sell)) p 0) (valuesAt b p)
+      rest-at : restOf a (tradesOf quantity part) (orderAt b p) ≡ restFrom (getD (rests quantity) p 0) (valuesAt b p)
       rest-at =
-          rest-from a (tradesOf quantity part) b p (getD (leftIn quantity (b .left) (ranksOn b a Buy) (ranksOn b a Sell)) p 0) left-at
-          ∙ ap (λ (n : ℕ). restFrom n (valuesAt b p)) (sym (ended-at a (b .validity) (leftIn quantity (b .left) (ranksOn b a Buy) (ranksOn b a Sell)) p here (omega (arith, left-long))))
+          rest-from a (tradesOf quantity part) b p (getD (lefts quantity) p 0) left-at
+          ∙ ap (λ (n : ℕ). restFrom n (valuesAt b p)) (sym (rest-with quantity p here))
 
   -- The book after them is the changed book.
   pub rests-in : (price quantity : ℕ) → ((s : Side) → quantity ≤ interest s price part)
-      → settled (restsIn a quantity b (ranksOn b a Buy) (ranksOn b a Sell)) b ≡ changed (restOf a (tradesOf quantity part)) b
+      → settledTo (rests quantity) b (behindTaken (b .taken)) ≡ changed (restOf a (tradesOf quantity part)) b
   rests-in price quantity enough =
-      settled-changed legal given (restOf a (tradesOf quantity part)) (restsIn a quantity b (ranksOn b a Buy) (ranksOn b a Sell)) b sound (λ p here taken. rest-at p here taken price quantity enough)
+      settled-changed legal given (restOf a (tradesOf quantity part)) (rests quantity) b sound (λ p here taken. rest-at p here taken price quantity enough) (rest-free quantity)
+      (behindTaken (b .taken)) (behind-within (b .taken)) (behind-free (b .taken))

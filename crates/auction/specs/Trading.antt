@@ -1,8 +1,10 @@
 -- An auction from the columns of a book and the ranks of its queues: its outcome, its trades, and what rests at each place.
-use Prim.Native.Nat.{ℕ, _≤_}
+use Prim.Native.Nat.{ℕ, _+_, _-_, _≤_}
+use mathlib.Core.Path.{_≡_, ap}
 use mathlib.Core.List.{List}
+use native.Mathlib.Omega.{arith}
 use lib.Dec.{leb}
-use lib.ListN.{length}
+use lib.ListN.{length, take, drop}
 use Rattle.lists.specs.Tests.{tests}
 use Rattle.lists.specs.Ranking.{rank, Ranked, rank-ranked}
 use Rattle.terms.specs.Bounds.{places}
@@ -19,9 +21,12 @@ use Rattle.auction.specs.Decided.{outcomeFrom}
 use Rattle.auction.specs.Ended.{ended}
 use Rattle.trades.specs.OverShares.{pairedShares}
 
--- the ranks of those taking part on a side of a book, best first
+-- the ranks of those taking part on a side, best first, from the columns of a book
+abbrev pub ranksIn : Auction → List ℕ → List ℕ → List ℕ → List ℕ → Side → List ℕ
+ranksIn a sides validities limits numbers s = rank leb (ranksFrom s a sides validities limits numbers 0 places)
+
 abbrev pub ranksOn : Book → Auction → Side → List ℕ
-ranksOn b a s = rank leb (ranksFrom s a (b .side) (b .validity) (b .limit) (b .number) 0 places)
+ranksOn b a s = ranksIn a (b .side) (b .validity) (b .limit) (b .number) s
 
 -- what a queue's orders get of a quantity
 abbrev pub sharesIn : ℕ → List ℕ → List ℕ → List ℕ
@@ -44,12 +49,17 @@ tradesIn quantity numbers lefts buys sells = pairedShares numbers buys (sharesIn
 unfoldable pub leftIn : ℕ → List ℕ → List ℕ → List ℕ → List ℕ
 leftIn quantity lefts buys sells = lessened sells (sharesIn quantity lefts sells) (lessened buys (sharesIn quantity lefts buys) lefts)
 
-abbrev pub restsIn : Auction → ℕ → Book → List ℕ → List ℕ → List ℕ
-restsIn a quantity b buys sells = ended a (b .validity) (leftIn quantity (b .left) buys sells)
+abbrev pub restsIn : Auction → ℕ → List ℕ → List ℕ → List ℕ → List ℕ → List ℕ
+restsIn a quantity validities lefts buys sells = ended a validities (leftIn quantity lefts buys sells)
 
 -- there are no more ranks than places, and they ascend
-pub ranks-few : (b : Book) (a : Auction) (s : Side) → length (ranksOn b a s) ≤ places
-ranks-few b a s = ranks-length s a (b .side) (b .validity) (b .limit) (b .number)
+module _ (a : Auction) (sides validities limits numbers : List ℕ) (s : Side) where
+  pub ranks-few : length (ranksIn a sides validities limits numbers s) ≤ places
+  ranks-few = ranks-length s a sides validities limits numbers
 
-pub ranks-ascend : (b : Book) (a : Auction) (s : Side) → Ranked leb (ranksOn b a s)
-ranks-ascend b a s = rank-ranked leb (λ x y z h k. omega tests) (ranksFrom s a (b .side) (b .validity) (b .limit) (b .number) 0 places) (numbers-comparable (ranksFrom s a (b .side) (b .validity) (b .limit) (b .number) 0 places))
+  pub ranks-ascend : Ranked leb (ranksIn a sides validities limits numbers s)
+  ranks-ascend = rank-ranked leb (λ x y z h k. omega tests) (ranksFrom s a sides validities limits numbers 0 places) (numbers-comparable (ranksFrom s a sides validities limits numbers 0 places))
+
+-- of one list with the ranks of both sides, the part behind the first ones
+pub asks-part : (bids asks : ℕ) (both : List ℕ) → take (bids + asks - bids) (drop bids both) ≡ take asks (drop bids both)
+asks-part bids asks both = let e : bids + asks - bids ≡ asks = omega arith in rw e

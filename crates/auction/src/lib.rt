@@ -4,8 +4,9 @@ mod decide;
 mod trading;
 
 pub use trading::Closed;
+pub use trading::View;
 pub use trading::count_trades;
-pub use trading::outcome_now;
+pub use trading::outlook;
 pub use trading::traded;
 
 // The outcome of an auction, with its price and quantity where it has them.

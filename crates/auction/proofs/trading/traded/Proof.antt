@@ -1,14 +1,35 @@
 -- The shares of a side are a front of its array, no longer than its queue. What rests is as long as the column it starts from.
 use Prim.Native.Nat.{ℕ}
-use mathlib.Core.Path.{_≡_, sym}
+use mathlib.Core.Path.{_≡_, sym, ap, _∙_}
 use mathlib.Core.List.{List}
 use native.Mathlib.Omega.{arith}
-use borrow.Author.Needs.{needs}
 use lib.ListN.{length, take}
 use lib.Seq.{length-take-le}
+use Rattle.fills.specs.Shares.{lessened}
+use Rattle.auction.specs.Ended.{ended}
 use Rattle.auction.specs.Composed.{few-trades, trades-composed, left-composed}
+use borrow.Author.Needs.{needs}
 use Rattle.auction.proofs.trading.traded.Statement.{statement}
 use Rattle.auction.proofs.trading.traded.Tie as tie
+
+-- the way back: to the start, to the shares of each side, to the trades
+abbrev start : tie.After-share-out → tie.Start
+start c = c .before .before .before .before .before
+
+abbrev bids-at : tie.After-share-out2 → tie.After-share-out
+bids-at c = c .before .before .before
+
+abbrev asks-at : tie.After-pair → tie.After-share-out2
+asks-at c = c .before .before .before .before .before
+
+abbrev pair-at : tie.After-rests2 → tie.After-pair
+pair-at c = c .before .before .before .before
+
+abbrev rests-at : tie.After-lessen → tie.After-rests2
+rests-at c = c .before .before
+
+abbrev lessen-at : tie.After-lessen2 → tie.After-lessen
+lessen-at c = c .before .before .before .before
 
 abbrev bought : tie.After-share-out → List ℕ
 bought c = take (c .share-out .result) (c .share-out .last .1 .1 .1 .0)
@@ -18,16 +39,11 @@ sold c = take (c .share-out2 .result) (c .share-out2 .last .1 .1 .1 .0)
 
 bids-long : (c : tie.After-share-out) → length (bought c) ≡ c .share-out .result
 bids-long c =
-    let pre = c .before .before .before .before .before .before .before .pre in
-    length-take-le (c .share-out .result) (c .share-out .last .1 .1 .1 .0) (omega (arith, c .share-out .kept .1 .1 .1 .0, c .share-out .ensures .0, pre .0))
+    length-take-le (c .share-out .result) (c .share-out .last .1 .1 .1 .0) (omega (arith, c .share-out .kept .1 .1 .1 .0, c .share-out .ensures .0, start c .pre .0))
 
 asks-long : (c : tie.After-share-out2) → length (sold c) ≡ c .share-out2 .result
 asks-long c =
-    let pre = c .before .before .before .before .before .before .before .before .before .before .before .before .pre in
-    length-take-le (c .share-out2 .result) (c .share-out2 .last .1 .1 .1 .0) (omega (arith, c .share-out2 .kept .1 .1 .1 .0, c .share-out2 .ensures .0, pre .1))
-
-left-long : (c : tie.Start) → length (c .args .t1 .left) ≡ 512
-left-long c = search needs
+    length-take-le (c .share-out2 .result) (c .share-out2 .last .1 .1 .1 .0) (omega (arith, c .share-out2 .kept .1 .1 .1 .0, c .share-out2 .ensures .0, start (bids-at c) .pre .1))
 
 slice-aggregate-share-out : tie.Need-slice-aggregate-share-out
 slice-aggregate-share-out c = search needs
@@ -45,36 +61,35 @@ array-share-prefix-bought : tie.Need-array-share-prefix-bought
 array-share-prefix-bought c = search needs
 
 slice-aggregate-pair : tie.Need-slice-aggregate-pair
-slice-aggregate-pair c = sym (bids-long (c .before .before .before .before .before .before .before .before .before .before))
+slice-aggregate-pair c = sym (bids-long (bids-at (c .before .before .before)))
 
 array-share-prefix-sold : tie.Need-array-share-prefix-sold
 array-share-prefix-sold c = search needs
 
 slice-aggregate-pair-2 : tie.Need-slice-aggregate-pair-2
-slice-aggregate-pair-2 c = sym (asks-long (c .before .before .before .before .before .before))
+slice-aggregate-pair-2 c = sym (asks-long (c .before .before .before .before))
 
 pair-requires : tie.Need-pair-requires
 pair-requires c κs =
-    let pre = c .before .before .before .before .before .before .before .before .before .before .before .before .before .before .before .before .before .before .pre in
-    let b = c .before .before .before .before .before .before .before .before .before .before .before in
-    let s = c .before .before .before .before .before .before in
+    let s = c .before .before .before .before in
+    let b = bids-at s in
     let few = b .share-out .ensures .0 in
     let few' = s .share-out2 .ensures .0 in
-    (omega (arith, bids-long b, few), omega (arith, asks-long s, few'), omega (arith, bids-long b, asks-long s, few, few', pre))
+    (omega (arith, bids-long b, few), omega (arith, asks-long s, few'), omega (arith, bids-long b, asks-long s, few, few', start b .pre))
 
 slice-aggregate-lessen : tie.Need-slice-aggregate-lessen
-slice-aggregate-lessen c = sym (left-long (c .before .before .before .before .before .before .before .before .before .before .before .before .before .before .before .before .before .before .before .before .before .before .before))
+slice-aggregate-lessen c = sym (start (bids-at (asks-at (pair-at c))) .pre .2)
 
 array-share-prefix-bought-2 : tie.Need-array-share-prefix-bought-2
 array-share-prefix-bought-2 c = search needs
 
 slice-aggregate-lessen-2 : tie.Need-slice-aggregate-lessen-2
-slice-aggregate-lessen-2 c = sym (bids-long (c .before .before .before .before .before .before .before .before .before .before .before .before .before .before .before .before .before))
+slice-aggregate-lessen-2 c = sym (bids-long (bids-at (asks-at (pair-at (c .before)))))
 
 lessen-requires : tie.Need-lessen-requires
 lessen-requires c κs =
-    let share-out = c .before .before .before .before .before .before .before .before .before .before .before .before .before .before .before .before .before .share-out in
-    (omega (arith, left-long (c .before .before .before .before .before .before .before .before .before .before .before .before .before .before .before .before .before .before .before .before .before .before .before .before)), omega (arith, bids-long (c .before .before .before .before .before .before .before .before .before .before .before .before .before .before .before .before .before), share-out .ensures .0))
+    let b = bids-at (asks-at (pair-at (c .before))) in
+    (omega (arith, start b .pre .2), omega (arith, bids-long b, b .share-out .ensures .0))
 
 slice-aggregate-lessen-3 : tie.Need-slice-aggregate-lessen-3
 slice-aggregate-lessen-3 c = search needs
@@ -83,43 +98,42 @@ array-share-prefix-sold-2 : tie.Need-array-share-prefix-sold-2
 array-share-prefix-sold-2 c = search needs
 
 slice-aggregate-lessen-4 : tie.Need-slice-aggregate-lessen-4
-slice-aggregate-lessen-4 c = sym (asks-long (c .before .before .before .before .before .before .before .before .before .before .before .before .before .before .before .before))
+slice-aggregate-lessen-4 c =
+    let l = c .before .before .before in
+    sym (asks-long (asks-at (pair-at (rests-at l))))
 
 lessen-requires-2 : tie.Need-lessen-requires-2
 lessen-requires-2 c κs =
-    let share-out2 = c .before .before .before .before .before .before .before .before .before .before .before .before .before .before .before .before .share-out2 in
-    let lessen = c .before .before .before .lessen in
-    (omega (arith, lessen .kept .0, left-long (c .before .before .before .before .before .before .before .before .before .before .before .before .before .before .before .before .before .before .before .before .before .before .before .before .before .before .before .before)), omega (arith, asks-long (c .before .before .before .before .before .before .before .before .before .before .before .before .before .before .before .before), share-out2 .ensures .0))
+    let l = c .before .before .before in
+    let s = asks-at (pair-at (rests-at l)) in
+    (omega (arith, l .lessen .kept .0, start (bids-at s) .pre .2), omega (arith, asks-long s, s .share-out2 .ensures .0))
 
 end-rests-requires : tie.Need-end-rests-requires
 end-rests-requires c κs = search needs
 
-settled-requires : tie.Need-settled-requires
-settled-requires c κs = search needs
-
-cast-t43 : tie.Need-cast-t43
-cast-t43 c =
-    let p = c .before .before .before .before .before .before .before .before .before .before .before .before .before .before .before .before .before in
-    let b = p .before .before .before .before .before .before .before .before .before .before .before .before in
-    let s = p .before .before .before .before .before .before .before in
-    let start = b .before .before .before .before .before .before .before in
-    let a = start .args in
-    omega (arith, p .pair .ensures .0, few-trades (a .t1 .number) (a .buys .now) (bought b) (a .sells .now) (sold s), bids-long b, asks-long s, b .share-out .ensures .0, s .share-out2 .ensures .0, start .pre)
+cast-t37 : tie.Need-cast-t37
+cast-t37 c =
+    let p = pair-at (rests-at (lessen-at (c .before .before .before))) in
+    let s = asks-at p in
+    let b = bids-at s in
+    let a = start b .args in
+    omega (arith, p .pair .ensures .0, few-trades (a .numbers .now) (a .buys .now) (bought b) (a .sells .now) (sold s), bids-long b, asks-long s, b .share-out .ensures .0, s .share-out2 .ensures .0, start b .pre)
 
 same-length : tie.Need-same-length
 same-length c = search needs
 
 returns : tie.Need-returns
 returns c =
-    let ends = c .before .before in
-    let m = ends .before .before .before .before .before in
-    let p = m .before .before .before .before .before .before .before .before .before .before in
-    let b = p .before .before .before .before .before .before .before .before .before .before .before .before in
-    let s = p .before .before .before .before .before .before .before in
-    let a = b .before .before .before .before .before .before .before .args in
-    let trades = trades-composed (a .quantity) (a .t1 .number) (a .t1 .left) (a .buys .now) (a .sells .now) (bought b) (sold s) (b .share-out .ensures .1) (s .share-out2 .ensures .1) in
-    let left = left-composed (a .quantity) (a .t1 .left) (a .buys .now) (a .sells .now) (bought b) (sold s) (b .share-out .ensures .1) (s .share-out2 .ensures .1) in
-    (rw (← trades) (p .pair .ensures .0), rw (← left, c .settled .ensures, ends .end-rests .ensures, m .lessen2 .ensures, m .before .before .before .before .lessen .ensures), rw (← trades) (p .pair .ensures .1))
+    let m = c .before .before .before in
+    let l = lessen-at m in
+    let p = pair-at (rests-at l) in
+    let s = asks-at p in
+    let b = bids-at s in
+    let a = start b .args in
+    let trades = trades-composed (a .quantity) (a .numbers .now) (a .lefts .now) (a .buys .now) (a .sells .now) (bought b) (sold s) (b .share-out .ensures .1) (s .share-out2 .ensures .1) in
+    let left = left-composed (a .quantity) (a .lefts .now) (a .buys .now) (a .sells .now) (bought b) (sold s) (b .share-out .ensures .1) (s .share-out2 .ensures .1) in
+    let rest = c .end-rests .ensures ∙ ap (ended (a .auction) (a .validities .now)) (m .lessen2 .ensures ∙ ap (lessened (a .sells .now) (sold s)) (l .lessen .ensures) ∙ left) in
+    (rw (← trades) (p .pair .ensures .0), rest, rw (← trades) (p .pair .ensures .1))
 
 pub traded-spec : {M : Type 1} → statement M
 traded-spec =
@@ -143,7 +157,6 @@ traded-spec =
     slice-aggregate-lessen-4
     lessen-requires-2
     end-rests-requires
-    settled-requires
-    cast-t43
+    cast-t37
     same-length
     returns)
