@@ -1,5 +1,5 @@
-// Fronts: the first orders of a ranked queue. Those whose limits allow a price are a front, and from one price to the next it grows
-// or shrinks by the orders between them: no list of sums is kept.
+// Fronts: the first orders of a ranked queue. Those whose limits allow a price are a front, and what they have open is demand or supply
+// (01 "The price"); from one price to the next a front grows or shrinks by the orders between them.
 use fills::left_at;
 use terms::Place;
 use terms::Side;

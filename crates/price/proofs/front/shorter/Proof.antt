@@ -41,7 +41,7 @@ sub-total : tie.Need-sub-total Inv-loop μ-loop
 sub-total c =
     let l = c .before .before .before .before in
     let a = l .before .before .args in
-    omega (arith, front-has (a .lefts .now) (a .ranks .now) (l .loop .count) (l .loop .total) (l .loop .inv .0) _ (c .before .before .before .loop-test .taken) (c .left-at .ensures))
+    omega (arith, front-has (a .lefts .now) (a .ranks .now) (l .loop .count) (l .loop .total) (l .loop .inv .0) _ (omega (arith, c .before .before .before .loop-test .taken)) (c .left-at .ensures))
 
 sub-count : tie.Need-sub-count Inv-loop μ-loop
 sub-count c = search needs
@@ -53,7 +53,7 @@ loop-again : tie.Need-loop-again Inv-loop μ-loop
 loop-again c =
     let l = c .before .before .before .before in
     let a = l .before .before .args in
-    (front-shorter (a .lefts .now) (a .ranks .now) (l .loop .count) (l .loop .total) (l .loop .inv .0) _ (c .before .before .before .loop-test .taken) (c .left-at .ensures), λ h. c .before .if1 .left)
+    (front-shorter (a .lefts .now) (a .ranks .now) (l .loop .count) (l .loop .total) (l .loop .inv .0) _ (omega (arith, c .before .before .before .loop-test .taken)) (c .left-at .ensures), λ h. c .before .if1 .left)
 
 returns-2 : tie.Need-returns-2 Inv-loop μ-loop
 returns-2 c =
