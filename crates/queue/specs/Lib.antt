@@ -11,6 +11,7 @@ pub mod Distinct
 pub mod RankNumbers
 pub mod Placing
 pub mod Merging
+pub mod Insertion
 pub mod Keys
 pub mod Queue
 pub mod Reach
