@@ -10,8 +10,8 @@ pub mod Distinct
 -- as the code computes it
 pub mod RankNumbers
 pub mod Placing
-pub mod Merging
 pub mod Insertion
+pub mod Merging
 pub mod Keys
 pub mod Queue
 pub mod Reach
