@@ -1,12 +1,12 @@
 -- The auction and the theoretical answer from what their code learns on the way, for the promises of `auction` and `theoretical`.
-use Prim.Native.Nat.{ℕ, _*_, _≤_}
-use mathlib.Core.Bool.{Bool, true, false}
+use Prim.Native.Nat.{ℕ, zero, suc, _*_, _≤_}
+use mathlib.Core.Bool.{Bool, true, false, true≢false}
 use mathlib.Core.Logic.{_≢_}
 use mathlib.Core.Path.{_≡_, refl, sym, ap, _∙_}
 use mathlib.Core.List.{List, _++_}
 use native.Mathlib.Omega.{arith}
 use borrow.Author.Tests.{ltb-false}
-use lib.ListN.{length, drop}
+use lib.ListN.{length, take, drop}
 use Rattle.terms.specs.Bounds.{places, tradeListLength}
 use Rattle.terms.specs.Orders.{isAuction, auctionFrom}
 use Rattle.terms.specs.declared.kinds.{Price.Price}
@@ -14,14 +14,16 @@ use Rattle.terms.specs.declared.orders.{Side.Side, Side.the-variants.Buy, Side.
 use Rattle.book.specs.declared.Book.{Book}
 use Rattle.book.specs.Resting.{resting}
 use Rattle.book.specs.ByPlace.{resting-length}
-use Rattle.book.specs.Settling.{settled}
+use Rattle.places.specs.Places.{behindTaken}
+use Rattle.book.specs.Settling.{settledTo}
 use Rattle.queue.specs.Part.{takingPart-length}
 use Rattle.price.specs.Interest.{interest, executable-within}
 use Rattle.trades.specs.declared.{Trade.Trade}
 use Rattle.auction.specs.declared.{Outcome.Outcome, Outcome.the-variants.Traded, Outcome.the-variants.NoTrade, Outcome.the-variants.NonOpening, Outcome.the-variants.Delayed}
 use Rattle.trades.specs.TradesOf.{tradesOf, trades-none, trades-count}
-use Rattle.auction.specs.Outcome.{outcome, trades, outcome-traded}
-use Rattle.auction.specs.Trading.{ranksOn, outcomeIn, tradesIn, restsIn}
+use Rattle.auction.specs.declared.trading.{Closed.Closed}
+use Rattle.auction.specs.Outcome.{outcome, trades, priceAnswered, quantityAnswered, outcome-traded}
+use Rattle.auction.specs.Trading.{ranksOn, outcomeIn, tradesIn, restsIn, ranks-few}
 use Rattle.auction.specs.OutcomeIn.{outcome-in}
 use Rattle.auction.specs.TradesIn.{trades-in, rests-in}
 use Rattle.trades.specs.Written.{quadruples}
@@ -29,49 +31,28 @@ use Rattle.refusals.specs.declared.phases.{Phase.Phase}
 use Rattle.session.specs.declared.{Session.Session}
 use Rattle.answers.specs.declared.{AuctionAnswer.AuctionAnswer}
 use Rattle.refusals.specs.Phases.{phaseAfter}
-use Rattle.refusals.specs.Checks.{Check, firstHit, answered-refused, answered-done, hits, passes}
+use Rattle.refusals.specs.Checks.{Check, firstHit, answeredBy, answered-refused, answered-done, hits, passes}
 use Rattle.refusals.specs.Rows.{auctionLater, theoreticalLater}
 use Rattle.refusals.specs.Exactly.{clear}
 use Rattle.session.specs.Sound.{legalPrice, legal-in-range, Sound, number-room}
-use Rattle.session.specs.State.{passedOn, delayGiven}
-use Rattle.session.specs.State.{part}
-use Rattle.answers.specs.Auctions.{preventable, delayable, heldBy, outcomeOf, answerOf, auctionChecks, auctionLeaves, auctionRefused, auctionDone, auctioned, theoreticalChecks, theoreticalRefused, theoreticalDone, theoretical}
-
--- the four numbers of an outcome with its trades counted
-abbrev pub answerWith : Outcome → ℕ → AuctionAnswer
-answerWith (Traded price quantity) count = record { outcome = 1; price = price; quantity = quantity; count = count }
-answerWith NoTrade count = record { outcome = 2; price = 0; quantity = 0; count = 0 }
-answerWith NonOpening count = record { outcome = 3; price = 0; quantity = 0; count = 0 }
-answerWith (Delayed price quantity) count = record { outcome = 4; price = price; quantity = quantity; count = 0 }
+use Rattle.session.specs.State.{withBook, passedOn, delayGiven, part}
+use Rattle.answers.specs.declared.course.{Course.Course, Course.the-variants.Refused, Course.the-variants.HeldBack, Course.the-variants.TakesPlace, Plan.Plan, Standing.Standing}
+use Rattle.answers.specs.SoundAfter.{traded-price}
+use Rattle.answers.specs.Course.{answerWith, courseOf, takesPlace, answerBy, resultBy, Priced, standingBy, Planned}
+use Rattle.answers.specs.Auctions.{preventable, delayable, heldBy, outcomeOf, answerOf, auctionChecks, AuctionLeaves, auctionLeaves, auctionRefused, auctionDone, auctioned, theoreticalChecks, theoreticalRefused, theoreticalDone, theoretical}
 
 -- the trades of a quantity and the book after them, told by the ranks of the session's book
 abbrev pub tradesBy : Session → Auction → ℕ → List Trade
 tradesBy s a quantity = tradesIn quantity (s .book .number) (s .book .left) (ranksOn (s .book) a Buy) (ranksOn (s .book) a Sell)
 
 abbrev pub settledBy : Session → Auction → ℕ → Book
-settledBy s a quantity = settled (restsIn a quantity (s .book) (ranksOn (s .book) a Buy) (ranksOn (s .book) a Sell)) (s .book)
+settledBy s a quantity = settledTo (restsIn a quantity (s .book .validity) (s .book .left) (ranksOn (s .book) a Buy) (ranksOn (s .book) a Sell)) (s .book) (behindTaken (s .book .taken))
 
 -- the session with that book, in the next phase
 abbrev pub closedBy : Session → Auction → ℕ → Price → Session
 closedBy s a quantity reference = passedOn s (phaseAfter a) reference (settledBy s a quantity)
 
--- what closing an auction of a quantity at a price leaves: the count, the session after, and the list, where it has room
-abbrev pub Leaves : Session → Auction → ℕ → ℕ → Price → ℕ → Session → List ℕ → List ℕ → Type 0
-Leaves s a price quantity reference count after list left =
-    (count ≡ length (tradesBy s a quantity)) × (after ≡ closedBy s a quantity reference) × (4 * count ≤ length list → left ≡ quadruples price (tradesBy s a quantity) ++ drop (4 * count) list)
-
--- .. from the ranks and the book that the code has
-pub closing : (s : Session) (a : Auction) (price quantity : ℕ) (reference : Price) (buys sells : List ℕ) → buys ≡ ranksOn (s .book) a Buy → sells ≡ ranksOn (s .book) a Sell
-    → (count : ℕ) (phase : Phase) (book : Book) (list left : List ℕ) → phase ≡ phaseAfter a
-    → (count ≡ length (tradesIn quantity (s .book .number) (s .book .left) buys sells)) × (book ≡ settled (restsIn a quantity (s .book) buys sells) (s .book))
-    × (4 * count ≤ length list → left ≡ quadruples price (tradesIn quantity (s .book .number) (s .book .left) buys sells) ++ drop (4 * count) list)
-    → Leaves s a price quantity reference count (passedOn s phase reference book) list left
-closing s a price quantity reference buys sells e f count phase book list left p (c, k, l) = rw (← e, ← f) (c, rw (p, k), l)
-
 module _ (s : Session) (sound : Sound s) (a : Auction) where
-  abbrev Closes : ℕ → ℕ → Price → ℕ → Session → List ℕ → List ℕ → Type 0
-  Closes price quantity reference count after list left = Leaves s a price quantity reference count after list left
-
   by-ranks : (quantity : ℕ) → tradesBy s a quantity ≡ tradesOf quantity (part s a)
   by-ranks quantity = trades-in (legalPrice s) (s .given) (s .book) (sound .book-sound) (number-room s sound) a quantity
 
@@ -106,7 +87,6 @@ module _ (s : Session) (sound : Sound s) (a : Auction) where
       }) list ≡ auctionDone s a list
   delayed-leaves price quantity e list = rw e
 
-  -- What the code leaves of each outcome, step by step.
   -- no more trades than the list has room for
   fits-list : (quantity count : ℕ) (list : List ℕ) → count ≡ length (tradesBy s a quantity) → tradeListLength ≤ length list → 4 * count ≤ length list
   fits-list quantity count list c room = omega (
@@ -116,27 +96,6 @@ module _ (s : Session) (sound : Sound s) (a : Auction) where
     takingPart-length a (resting (s .book)),
     resting-length (s .book) places,
   )
-
-  -- a close, and the outcome that it belongs to
-  module _ (o : Outcome) (now : o ≡ outcomeOf s a) (result : AuctionAnswer) (list left : List ℕ) (room : tradeListLength ≤ length list) where
-    pub leaves-traded : (price quantity count : ℕ) (after : Session) → o ≡ Traded price quantity → result ≡ answerWith (Traded price quantity) count
-        → Closes price quantity (record { 0 = price }) count after list left
-        → auctionLeaves (record { answer = 0; result = result; session = after }) left ≡ auctionDone s a list
-    leaves-traded price quantity count after i r (c, e, l) =
-        rw (r, e) (traded-leaves price quantity count (sym now ∙ i) c list left (l (fits-list quantity count list c room)))
-
-    pub leaves-no-trade : (count : ℕ) (after : Session) → o ≡ NoTrade → result ≡ answerWith o 0
-        → Closes 0 0 (s .reference) count after list left
-        → auctionLeaves (record { answer = 0; result = result; session = after }) left ≡ auctionDone s a list
-    leaves-no-trade count after i r (c, e, l) =
-        rw (r, i, e) (no-trade-leaves 0 count (sym now ∙ i) c list left (l (fits-list 0 count list c room)))
-
-    pub leaves-non-opening : o ≡ NonOpening → result ≡ answerWith o 0 → auctionLeaves (record { answer = 0; result = result; session = s }) list ≡ auctionDone s a list
-    leaves-non-opening i r = rw (r, i) (non-opening-leaves (sym now ∙ i) list)
-
-    pub leaves-delayed : (price quantity : ℕ) (after : Session) → o ≡ Delayed price quantity → result ≡ answerWith (Delayed price quantity) 0 → after ≡ delayGiven s
-        → auctionLeaves (record { answer = 0; result = result; session = after }) list ≡ auctionDone s a list
-    leaves-delayed price quantity after i r e = rw (r, e) (delayed-leaves price quantity (sym now ∙ i) list)
 
   -- the answer foretold: trades counted where it trades
   pub foretold : (o : Outcome) → o ≡ outcomeOf s a → (result : AuctionAnswer) (count : ℕ) → count ≡ length (trades o (part s a)) → result ≡ answerWith o count → result ≡ answerOf (outcomeOf s a) (part s a)
@@ -160,32 +119,158 @@ module _ (s : Session) (sound : Sound s) (a : Auction) where
   outcome-by-ranks buys sells e f prevents delays g h o i =
       i ∙ rw (e, f, g, h) (outcome-in (legalPrice s) (s .given) (s .book) (sound .book-sound) (number-room s sound) a (heldBy s a) (s .parameters .threshold .0) (s .reference .0) (legal-in-range s (s .reference .0) (sound .reference-holds)))
 
--- the calls from what their code learns on the way
-module _ (s : Session) (which : ℕ) where
-  module _ (list : List ℕ) where
-    abbrev checks : List Check
-    checks = auctionChecks s which (length list)
+-- An auction from its course: what the code leaves.
+abbrev pub standingOf : Session → Standing
+standingOf s = record { phase = s .phase; delayed = s .delayed; reference = s .reference }
 
-    pub auction-out-of-range : isAuction which ≡ false → auctionRefused s list 1 ≡ auctioned s which list
+abbrev pub leavesBy : Session → Course → ℕ → Book → List ℕ → AuctionLeaves
+leavesBy s course count book list =
+    auctionLeaves (record {
+      answer = answerBy course;
+      result = resultBy course count;
+      session = record {
+        phase = standingBy course (standingOf s) .phase;
+        delayed = standingBy course (standingOf s) .delayed;
+        parameters = s .parameters;
+        reference = standingBy course (standingOf s) .reference;
+        given = s .given;
+        book = book;
+      };
+    }) list
+
+-- an auction that takes place is not refused, and has the auction and the outcome that its course says
+takes-place : (k : ℕ) (a b : Auction) (o p : Outcome) → answeredBy k Refused (courseOf a o) ≡ TakesPlace b p → (k ≡ 0) × (b ≡ a) × (p ≡ o)
+takes-place zero a b (Traded price quantity) p e = (refl, cc, cc)
+takes-place zero a b NoTrade p e = (refl, cc, cc)
+takes-place zero a b NonOpening p e = absurd (let z : _≡_ {A = ℕ} 0 1 = cc in omega arith)
+takes-place zero a b (Delayed price quantity) p e = absurd (let z : _≡_ {A = ℕ} 0 1 = cc in omega arith)
+takes-place (suc n) a b o p e = absurd (let z : _≡_ {A = ℕ} 0 1 = cc in omega arith)
+
+module _ (s : Session) (sound : Sound s) (which : ℕ) (list : List ℕ) where
+  abbrev checks : List Check
+  checks = auctionChecks s which (length list)
+
+  abbrev pub courseNow : Course
+  courseNow = answeredBy (firstHit checks) Refused (courseOf (auctionFrom which) (outcomeOf s (auctionFrom which)))
+
+  outcome-found : outcomeIn (heldBy s (auctionFrom which)) (s .parameters .threshold .0) (s .reference .0) (s .book .limit) (s .book .left) (ranksOn (s .book) (auctionFrom which) Buy) (ranksOn (s .book) (auctionFrom which) Sell)
+      ≡ outcomeOf s (auctionFrom which)
+  outcome-found =
+      outcome-by-ranks s sound (auctionFrom which) (ranksOn (s .book) (auctionFrom which) Buy) (ranksOn (s .book) (auctionFrom which) Sell) refl refl (preventable (auctionFrom which))
+      (delayable (auctionFrom which) (s .delayed)) refl refl _ refl
+
+  -- the course that is planned
+  pub course-planned : {plan : Plan} {ranks : List ℕ} (threshold reference : ℕ) → threshold ≡ s .parameters .threshold .0 → reference ≡ s .reference .0
+      → Planned which (s .phase) (length list) (s .delayed) threshold reference (s .book .side) (s .book .validity) (s .book .limit) (s .book .number) (s .book .left) plan ranks
+      → plan .course ≡ courseNow
+  course-planned threshold reference t r planned = planned .course ∙ rw (t, r, outcome-found)
+
+  -- its price is one
+  pub course-priced : Priced courseNow
+  course-priced = go (firstHit checks) (outcomeOf s (auctionFrom which)) refl
+    where
+      go : (k : ℕ) (o : Outcome) → outcomeOf s (auctionFrom which) ≡ o → Priced (answeredBy k Refused (courseOf (auctionFrom which) o))
+      go zero (Traded price quantity) e = traded-price s sound (auctionFrom which) price quantity e
+      go zero NoTrade e = tt
+      go zero NonOpening e = tt
+      go zero (Delayed price quantity) e = tt
+      go (suc n) o e = tt
+
+  -- refused or held back: the book stays
+  pub kept-leaves : (course : Course) → course ≡ courseNow → takesPlace course ≡ false → leavesBy s course 0 (s .book) list ≡ auctioned s which list
+  unfolding auctioned
+  kept-leaves course is stays = rw is (go (firstHit checks) (outcomeOf s (auctionFrom which)) refl (ap takesPlace (sym is) ∙ stays))
+    where
+      go : (k : ℕ) (o : Outcome) → outcomeOf s (auctionFrom which) ≡ o → takesPlace (answeredBy k Refused (courseOf (auctionFrom which) o)) ≡ false
+          → leavesBy s (answeredBy k Refused (courseOf (auctionFrom which) o)) 0 (s .book) list ≡ answeredBy k (auctionRefused s list) (auctionDone s (auctionFrom which) list)
+      go zero (Traded price quantity) e h = absurd (true≢false h)
+      go zero NoTrade e h = absurd (true≢false h)
+      go zero NonOpening e h = non-opening-leaves s sound (auctionFrom which) e list
+      go zero (Delayed price quantity) e h = delayed-leaves s sound (auctionFrom which) price quantity e list
+      go (suc n) o e h = refl
+
+  -- taking place: the trades of its quantity at its price, and the book after them
+  module _ (course : Course) (is : course ≡ courseNow) {b : Auction} {p : Outcome} (takes : course ≡ TakesPlace b p) (ranks : List ℕ) (bids asks : ℕ)
+      (buys : firstHit checks ≡ 0 → take bids ranks ≡ ranksOn (s .book) (auctionFrom which) Buy)
+      (sells : firstHit checks ≡ 0 → take asks (drop bids ranks) ≡ ranksOn (s .book) (auctionFrom which) Sell) where
+    abbrev bidRanks : List ℕ
+    bidRanks = take bids ranks
+
+    abbrev askRanks : List ℕ
+    askRanks = take asks (drop bids ranks)
+
+    known : (firstHit checks ≡ 0) × (b ≡ auctionFrom which) × (p ≡ outcomeOf s (auctionFrom which))
+    known = takes-place (firstHit checks) (auctionFrom which) b (outcomeOf s (auctionFrom which)) p (sym is ∙ takes)
+
+    pub taken-few : (length bidRanks ≤ places) × (length askRanks ≤ places)
+    taken-few =
+        let b = s .book in (
+          rw (buys (known .0)) (ranks-few (auctionFrom which) (b .side) (b .validity) (b .limit) (b .number) Buy),
+          rw (sells (known .0)) (ranks-few (auctionFrom which) (b .side) (b .validity) (b .limit) (b .number) Sell),
+        )
+
+    room : tradeListLength ≤ length list
+    room = ltb-false (length list) tradeListLength (clear checks tt (sym (known .0)) 12)
+
+    -- by the outcome
+    leaves-of : (o : Outcome) → outcomeOf s (auctionFrom which) ≡ o → takesPlace (courseOf (auctionFrom which) o) ≡ true → (count : ℕ) (left : List ℕ)
+        → count ≡ length (tradesBy s (auctionFrom which) (quantityAnswered o))
+        → (4 * count ≤ length list → left ≡ quadruples (priceAnswered o) (tradesBy s (auctionFrom which) (quantityAnswered o)) ++ drop (4 * count) list)
+        → leavesBy s (courseOf (auctionFrom which) o) count (settledBy s (auctionFrom which) (quantityAnswered o)) left ≡ auctionDone s (auctionFrom which) list
+    leaves-of (Traded price quantity) e h count left c l =
+        traded-leaves s sound (auctionFrom which) price quantity count e c list left (l (fits-list s sound (auctionFrom which) quantity count list c room))
+    leaves-of NoTrade e h count left c l = no-trade-leaves s sound (auctionFrom which) 0 count e c list left (l (fits-list s sound (auctionFrom which) 0 count list c room))
+    leaves-of NonOpening e h count left c l = absurd (true≢false (sym h))
+    leaves-of (Delayed price quantity) e h count left c l = absurd (true≢false (sym h))
+
+    pub taken-leaves : (count : ℕ) (book : Book) (left : List ℕ)
+        → count ≡ length (tradesIn (quantityAnswered p) (s .book .number) (s .book .left) bidRanks askRanks)
+        → book ≡ settledTo (restsIn b (quantityAnswered p) (s .book .validity) (s .book .left) bidRanks askRanks) (s .book) (behindTaken (s .book .taken))
+        → (4 * count ≤ length list → left ≡ quadruples (priceAnswered p) (tradesIn (quantityAnswered p) (s .book .number) (s .book .left) bidRanks askRanks) ++ drop (4 * count) list)
+        → leavesBy s course count book left ≡ auctioned s which list
     unfolding auctioned
-    auction-out-of-range h = answered-refused checks (auctionRefused s list) _ (hits 1 _ (rw h)) (λ z. omega arith)
+    taken-leaves count book left c k l = go known
+      where
+        go : (firstHit checks ≡ 0) × (b ≡ auctionFrom which) × (p ≡ outcomeOf s (auctionFrom which)) → leavesBy s course count book left ≡ auctioned s which list
+        go (z, i, o) =
+            let at : course ≡ courseOf (auctionFrom which) (outcomeOf s (auctionFrom which)) = is ∙ rw z in
+            let settled : book ≡ settledBy s (auctionFrom which) (quantityAnswered (outcomeOf s (auctionFrom which))) = k ∙ rw (buys z, sells z, i, o) in
+            rw (at, settled)
+            (leaves-of (outcomeOf s (auctionFrom which)) refl (ap takesPlace (sym at ∙ takes)) count left (rw (buys z, sells z, o) at c) (rw (buys z, sells z, o) at l)
+            ∙ ap (λ (m : ℕ). answeredBy m (auctionRefused s list) (auctionDone s (auctionFrom which) list)) (sym z))
 
-    module _ {a : Auction} (good : (isAuction which ≡ true) × (a ≡ auctionFrom which)) {n : ℕ} (hit : n ≡ firstHit (auctionLater (s .phase) a (length list))) where
-      auction-hit : n ≡ firstHit checks
-      auction-hit = passes 1 _ (rw (good .0)) (rw (good .1) at hit)
+-- What the code puts together in the end: the numbers by the course, what the session stands at, and the rest of the session as it is now.
+abbrev pub leavesAs : Session → ℕ → AuctionAnswer → Standing → Session → List ℕ → AuctionLeaves
+leavesAs s answer result standing now list =
+    auctionLeaves (record {
+      answer = answer;
+      result = result;
+      session = record { phase = standing .phase; delayed = standing .delayed; parameters = s .parameters; reference = standing .reference; given = now .given; book = now .book };
+    }) list
 
-      pub auction-turned-down : n ≢ 0 → auctionRefused s list n ≡ auctioned s which list
-      unfolding auctioned
-      auction-turned-down h = answered-refused checks (auctionRefused s list) _ auction-hit h
+module _ (s : Session) (sound : Sound s) (which : ℕ) (list : List ℕ) (course : Course) (is : course ≡ courseNow s sound which list)
+    (now : Session) (count : ℕ) (left : List ℕ) (answer : ℕ) (a : answer ≡ answerBy course) (result : AuctionAnswer) (r : result ≡ resultBy course count)
+    (standing : Standing) (t : standing ≡ standingBy course (record { phase = s .phase; delayed = now .delayed; reference = now .reference })) where
+  -- refused or held back
+  pub leaves-kept : takesPlace course ≡ false → now ≡ s → count ≡ 0 → left ≡ list → leavesAs s answer result standing now left ≡ auctioned s which list
+  leaves-kept stays n c l = rw (a, r, t, n, c, l) (kept-leaves s sound which list course is stays)
 
-      module _ (z : n ≡ 0) where
-        pub auction-room : tradeListLength ≤ length list
-        auction-room = ltb-false (length list) tradeListLength (clear checks tt (sym z ∙ auction-hit) 12)
+  -- .. or taking place, with each column settled
+  pub leaves-taken : {b : Auction} {p : Outcome} → course ≡ TakesPlace b p → (ranks : List ℕ) (bids asks : ℕ)
+      → (firstHit (checks s sound which list) ≡ 0 → take bids ranks ≡ ranksOn (s .book) (auctionFrom which) Buy)
+      → (firstHit (checks s sound which list) ≡ 0 → take asks (drop bids ranks) ≡ ranksOn (s .book) (auctionFrom which) Sell)
+      → (book : Book) → now ≡ withBook s (s .given) book
+      → (closed : Closed) → count ≡ closed .count
+      → (closed .count ≡ length (tradesIn (quantityAnswered p) (s .book .number) (s .book .left) (take bids ranks) (take asks (drop bids ranks))))
+      × (closed .rests ≡ restsIn b (quantityAnswered p) (s .book .validity) (s .book .left) (take bids ranks) (take asks (drop bids ranks)))
+      × (4 * closed .count ≤ length list → left ≡ quadruples (priceAnswered p) (tradesIn (quantityAnswered p) (s .book .number) (s .book .left) (take bids ranks) (take asks (drop bids ranks))) ++ drop (4 * closed .count) list)
+      → (end : ℕ) → end ≡ behindTaken (s .book .taken) → book ≡ settledTo (closed .rests) (s .book) end
+      → leavesAs s answer result standing now left ≡ auctioned s which list
+  leaves-taken takes ranks bids asks buys sells book n closed c (k, rests, l) end e settled =
+      rw (a, r, t, n, c) (taken-leaves s sound which list course is takes ranks bids asks buys sells (closed .count) book left k (settled ∙ rw (e, rests)) l)
 
-        pub auction-carried-out : auctionDone s a list ≡ auctioned s which list
-        unfolding auctioned
-        auction-carried-out = rw (good .1) (answered-done checks (auctionRefused s list) (auctionDone s (auctionFrom which) list) (sym z ∙ auction-hit))
-
+-- the theoretical answer from what its code learns on the way
+module _ (s : Session) (which : ℕ) where
   abbrev foresights : List Check
   foresights = theoreticalChecks s which
 

@@ -5,4 +5,5 @@ pub mod Auctions
 -- its laws
 pub mod SoundAfter
 -- as the code computes it
+pub mod Course
 pub mod AuctionCalls

@@ -53,6 +53,13 @@ settledTo rests b n = record {
   quoted = columnTo rests (b .quoted) n;
 }
 
+-- .. from its columns, settled one by one
+pub settled-as : (rests : List ℕ) (b : Book) (n : ℕ) {taken number member side validity left limit quoted : List ℕ}
+    → taken ≡ wordsTo rests (b .taken) n → number ≡ columnTo rests (b .number) n → member ≡ columnTo rests (b .member) n → side ≡ columnTo rests (b .side) n
+    → validity ≡ columnTo rests (b .validity) n → left ≡ leftTo rests (b .left) n → limit ≡ columnTo rests (b .limit) n → quoted ≡ columnTo rests (b .quoted) n
+    → record { taken = taken; number = number; member = member; side = side; validity = validity; left = left; limit = limit; quoted = quoted } ≡ settledTo rests b n
+settled-as rests b n t u m s v l i q = rw (t, u, m, s, v, l, i, q)
+
 -- one place on
 pub column-next : (rests column now : List ℕ) (n : ℕ) → now ≡ columnTo rests column n → (x : ℕ) → x ≡ keptBy (getD rests n 0) (getD now n 0) → set now n x ≡ columnTo rests column (n + 1)
 unfolding columnTo

@@ -1,6 +1,6 @@
 use borrow.Author.Needs.{needs}
-use Rattle.answers.proofs.auctions.answer_with.Statement.{statement}
-use Rattle.answers.proofs.auctions.answer_with.Tie as tie
+use Rattle.answers.proofs.course.answer_with.Statement.{statement}
+use Rattle.answers.proofs.course.answer_with.Tie as tie
 
 enum-known-outcome : tie.Need-enum-known-outcome
 enum-known-outcome c = search needs
