@@ -54,6 +54,7 @@ table() {
     wide 'bytes moved, 512 orders' "$ob" "$tb" "$qb"
 }
 table m 'mixed orders: instructions'
+table o 'one limit: instructions'
 table w 'the worst: instructions'
 echo
 # Two orders: no frame depends on the book.

@@ -27,16 +27,15 @@ use Rattle.auction.specs.Trading.{ranksOn, outcomeIn, tradesIn, restsIn, ranks-
 use Rattle.auction.specs.OutcomeIn.{outcome-in}
 use Rattle.auction.specs.TradesIn.{trades-in, rests-in}
 use Rattle.trades.specs.Written.{quadruples}
-use Rattle.refusals.specs.declared.phases.{Phase.Phase}
 use Rattle.session.specs.declared.{Session.Session}
 use Rattle.answers.specs.declared.{AuctionAnswer.AuctionAnswer}
 use Rattle.refusals.specs.Phases.{phaseAfter}
 use Rattle.refusals.specs.Checks.{Check, firstHit, answeredBy, answered-refused, answered-done, hits, passes}
-use Rattle.refusals.specs.Rows.{auctionLater, theoreticalLater}
+use Rattle.refusals.specs.Rows.{theoreticalLater}
 use Rattle.refusals.specs.Exactly.{clear}
 use Rattle.session.specs.Sound.{legalPrice, legal-in-range, Sound, number-room}
 use Rattle.session.specs.State.{withBook, passedOn, delayGiven, part}
-use Rattle.answers.specs.declared.course.{Course.Course, Course.the-variants.Refused, Course.the-variants.HeldBack, Course.the-variants.TakesPlace, Plan.Plan, Standing.Standing}
+use Rattle.answers.specs.declared.course.{Course.Course, Course.the-variants.Refused, Course.the-variants.TakesPlace, Plan.Plan, Standing.Standing}
 use Rattle.answers.specs.SoundAfter.{traded-price}
 use Rattle.answers.specs.Course.{answerWith, courseOf, takesPlace, answerBy, resultBy, Priced, standingBy, Planned}
 use Rattle.answers.specs.Auctions.{preventable, delayable, heldBy, outcomeOf, answerOf, auctionChecks, AuctionLeaves, auctionLeaves, auctionRefused, auctionDone, auctioned, theoreticalChecks, theoreticalRefused, theoreticalDone, theoretical}

@@ -84,15 +84,16 @@ pub fn auction(mut session: Session, which: u8, list: &mut [u32]) -> Auctioned
             &both[bids..behind],
             list,
         );
+        let rests = closed.rests;
         let end = behind_taken(&session.book.taken);
-        settle_words(&mut session.book.taken, &closed.rests, end);
-        settle32(&mut session.book.number, &closed.rests, end);
-        settle16(&mut session.book.member, &closed.rests, end);
-        settle8(&mut session.book.side, &closed.rests, end);
-        settle8(&mut session.book.validity, &closed.rests, end);
-        settle_left(&mut session.book.left, &closed.rests, end);
-        settle32(&mut session.book.limit, &closed.rests, end);
-        settle8(&mut session.book.quoted, &closed.rests, end);
+        settle_words(&mut session.book.taken, &rests, end);
+        settle32(&mut session.book.number, &rests, end);
+        settle16(&mut session.book.member, &rests, end);
+        settle8(&mut session.book.side, &rests, end);
+        settle8(&mut session.book.validity, &rests, end);
+        settle_left(&mut session.book.left, &rests, end);
+        settle32(&mut session.book.limit, &rests, end);
+        settle8(&mut session.book.quoted, &rests, end);
         count = closed.count;
     }
     let answer = answer_of(course);

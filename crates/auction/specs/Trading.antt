@@ -1,17 +1,17 @@
 -- An auction from the columns of a book and the ranks of its queues: its outcome, its trades, and what rests at each place.
 use Prim.Native.Nat.{ℕ, _+_, _-_, _≤_}
-use mathlib.Core.Path.{_≡_, ap}
+use mathlib.Core.Path.{_≡_}
 use mathlib.Core.List.{List}
 use native.Mathlib.Omega.{arith}
 use lib.Dec.{leb}
 use lib.ListN.{length, take, drop}
-use Rattle.lists.specs.Tests.{tests}
-use Rattle.lists.specs.Ranking.{rank, Ranked, rank-ranked}
+use Rattle.lists.specs.Ranking.{rank, Ranked}
+use Rattle.lists.specs.Ascending.{numbers-ranked}
 use Rattle.terms.specs.Bounds.{places}
 use Rattle.terms.specs.declared.orders.{Side.Side, Side.the-variants.Buy, Side.the-variants.Sell, Auction.Auction}
 use Rattle.book.specs.declared.Book.{Book}
 use Rattle.queue.specs.RankNumbers.{ranksFrom, along}
-use Rattle.queue.specs.Placing.{ranks-length, numbers-comparable}
+use Rattle.queue.specs.Placing.{ranks-length}
 use Rattle.fills.specs.Shares.{sharesOf, lessened}
 use Rattle.price.specs.Search.{offered, searchedIn}
 use Rattle.trades.specs.declared.{Trade.Trade}
@@ -58,7 +58,7 @@ module _ (a : Auction) (sides validities limits numbers : List ℕ) (s : Side) w
   ranks-few = ranks-length s a sides validities limits numbers
 
   pub ranks-ascend : Ranked leb (ranksIn a sides validities limits numbers s)
-  ranks-ascend = rank-ranked leb (λ x y z h k. omega tests) (ranksFrom s a sides validities limits numbers 0 places) (numbers-comparable (ranksFrom s a sides validities limits numbers 0 places))
+  ranks-ascend = numbers-ranked (ranksFrom s a sides validities limits numbers 0 places)
 
 -- of one list with the ranks of both sides, the part behind the first ones
 pub asks-part : (bids asks : ℕ) (both : List ℕ) → take (bids + asks - bids) (drop bids both) ≡ take asks (drop bids both)

@@ -1,6 +1,6 @@
 // What an auction, a theoretical answer and a ranked queue cost. Three bytes on standard input say the book and the call:
-// the size, `a` to `d` (2, 32, 128 or 512 orders); the orders, `m` mixed or `w` the worst; the call, `a` an opening, `c` an opening
-// and a closing, `t` a theoretical answer, `q` a ranked queue, any other none. tools/bench.sh counts the instructions.
+// the size, `a` to `d` (2, 32, 128 or 512 orders); the orders, `o` with one limit, `w` the worst, else mixed; the call, `a` an opening, `c` an
+// opening and a closing, `t` a theoretical answer, `q` a ranked queue, any other none. tools/bench.sh counts the instructions.
 use calls::AuctionAnswer;
 use calls::Session;
 use libc::STDIN_FILENO;
@@ -92,23 +92,25 @@ fn mixed(i: u32, x: u32) -> Entry
     day_order(Side::SELL, quantity, 68_900 + more)
 }
 
-// All but the last are buys with one limit, so that each goes to the front of those ranked before it, and all are filled by the last.
-fn worst(i: u32, orders: u32) -> Entry
+// All but the last are buys with these limits, and all are filled by the last.
+fn against_one(i: u32, orders: u32, limit: u32) -> Entry
     requires { ⌜ i ≤ 512 ⌝ }
 {
     if i + 1 == orders {
         return day_order(Side::SELL, 10 * i, REFERENCE);
     }
-    day_order(Side::BUY, 10, REFERENCE)
+    day_order(Side::BUY, 10, limit)
 }
 
 fn chosen(which: u8, i: u32, orders: u32, x: u32) -> Entry
     requires { ⌜ (i ≤ 512) × (x ≤ 65536) ⌝ }
 {
-    if which == b'w' {
-        return worst(i, orders);
+    match which {
+        b'o' => against_one(i, orders, REFERENCE),
+        // The worst: each buy better than all before it, so that a merge moves all that it has, and no two limits equal.
+        b'w' => against_one(i, orders, REFERENCE + 100 * i),
+        _ => mixed(i, x),
     }
-    mixed(i, x)
 }
 
 fn filled(orders: u32, which: u8) -> Session

@@ -13,7 +13,6 @@ use lib.Dec.{eqb}
 use lib.ListN.{getD, set}
 use lib.Seq.{set-getD}
 use Rattle.terms.specs.Bounds.{places}
-use Rattle.terms.specs.Kinds.{isPlace}
 use Rattle.terms.specs.Orders.{Resting}
 use Rattle.book.specs.declared.{Book.Book, Values.Values}
 use Rattle.places.specs.Places.{isTaken, marked, unmarked, unmarkedAt}

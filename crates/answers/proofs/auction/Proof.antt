@@ -93,28 +93,28 @@ behind-taken-requires : tie.Need-behind-taken-requires
 behind-taken-requires c κs = search needs
 
 settle-words-requires : tie.Need-settle-words-requires
-settle-words-requires c κs = within (c .before .before .before)
+settle-words-requires c κs = within (c .before .before)
 
 settle32-requires : tie.Need-settle32-requires
-settle32-requires c κs = within (c .before .before .before .before .before .before .before)
+settle32-requires c κs = within (c .before .before .before .before .before)
 
 settle16-requires : tie.Need-settle16-requires
-settle16-requires c κs = within (c .before .before .before .before .before .before .before .before .before .before .before)
+settle16-requires c κs = within (c .before .before .before .before .before .before .before .before)
 
 settle8-requires : tie.Need-settle8-requires
-settle8-requires c κs = within (c .before .before .before .before .before .before .before .before .before .before .before .before .before .before .before)
+settle8-requires c κs = within (c .before .before .before .before .before .before .before .before .before .before .before)
 
 settle8-requires-2 : tie.Need-settle8-requires-2
-settle8-requires-2 c κs = within (c .before .before .before .before .before .before .before .before .before .before .before .before .before .before .before .before .before .before .before)
+settle8-requires-2 c κs = within (c .before .before .before .before .before .before .before .before .before .before .before .before .before .before)
 
 settle-left-requires : tie.Need-settle-left-requires
-settle-left-requires c κs = within (c .before .before .before .before .before .before .before .before .before .before .before .before .before .before .before .before .before .before .before .before .before .before .before)
+settle-left-requires c κs = within (c .before .before .before .before .before .before .before .before .before .before .before .before .before .before .before .before .before)
 
 settle32-requires-2 : tie.Need-settle32-requires-2
-settle32-requires-2 c κs = within (c .before .before .before .before .before .before .before .before .before .before .before .before .before .before .before .before .before .before .before .before .before .before .before .before .before .before .before)
+settle32-requires-2 c κs = within (c .before .before .before .before .before .before .before .before .before .before .before .before .before .before .before .before .before .before .before .before)
 
 settle8-requires-3 : tie.Need-settle8-requires-3
-settle8-requires-3 c κs = within (c .before .before .before .before .before .before .before .before .before .before .before .before .before .before .before .before .before .before .before .before .before .before .before .before .before .before .before .before .before .before .before)
+settle8-requires-3 c κs = within (c .before .before .before .before .before .before .before .before .before .before .before .before .before .before .before .before .before .before .before .before .before .before .before)
 
 answer-of-requires : tie.Need-answer-of-requires
 answer-of-requires c κs = search needs
@@ -124,7 +124,7 @@ result-of-requires c κs = search needs
 
 -- where both ways meet, the course is still that one
 course-met : (m : tie.At-match-came) → _≡_ {A = Course} (m .match .course) (m .before .before .planned .result .course)
-course-met m = ⊎-elim (λ w. w .54 ∙ sym (w .1 .given .1)) (λ w. w .3) (m .match .came)
+course-met m = ⊎-elim (λ w. w .47 ∙ sym (w .1 .given .1)) (λ w. w .3) (m .match .came)
 
 course-at : (m : tie.At-match-came) → let p = m .before .before in let a = start p .args in m .match .course ≡ courseNow (a .t1) (start p .pre) (a .which) (a .list .now)
 course-at m = course-met m ∙ course-is (m .before .before)
@@ -145,7 +145,7 @@ standing-after-requires c κs =
 same-length : tie.Need-same-length
 same-length c =
     let m = c .before .before .before .before .before .before in
-    ⊎-elim (λ w. ap length (w .52) ∙ w .14 .kept .1 .1 .1 .1 .1 .1 .1 .1 .0) (λ w. ap length (w .1)) (m .match .came)
+    ⊎-elim (λ w. ap length (w .45) ∙ w .14 .kept .1 .1 .1 .1 .1 .1 .1 .1 .0) (λ w. ap length (w .1)) (m .match .came)
 
 returns : tie.Need-returns
 returns c =
@@ -156,18 +156,18 @@ returns c =
     ⊎-elim
     (λ w. leaves-taken (a .t1) (start p .pre) (a .which) (a .list .now) (m .match .course) (course-at m) (m .match .session) (m .match .count) (m .match .list)
     (c .before .before .before .before .before .answer-of .result) (c .before .before .before .before .before .answer-of .ensures) (c .before .before .before .before .result-of .result) (c .before .before .before .before .result-of .ensures) (c .before .before .standing-after .result) (c .before .before .standing-after .ensures)
-    (w .54) (ranks p) (planned .result .bids) (planned .result .asks) (planned .ensures .buys) (planned .ensures .sells)
+    (w .47) (ranks p) (planned .result .bids) (planned .result .asks) (planned .ensures .buys) (planned .ensures .sells)
     (record {
       taken = w .23 .last .0;
-      number = w .27 .last .0;
-      member = w .31 .last .0;
-      side = w .35 .last .0;
-      validity = w .39 .last .0;
-      left = w .43 .last .0;
-      limit = w .47 .last .0;
-      quoted = w .51 .last .0;
-    }) (w .53) (w .14 .result) (w .55) (let e = rw (asks-part (planned .result .bids) (planned .result .asks) (ranks p), w .5 .ensures, w .6 .ensures) at (w .14 .ensures) in (e .0, e .1, λ h. w .52 ∙ e .2 h)) (w .19 .result) (w .19 .ensures)
-    (settled-as (w .14 .result .rests) (a .t1 .book) (w .19 .result) (w .23 .ensures) (w .27 .ensures) (w .31 .ensures) (w .35 .ensures) (w .39 .ensures) (w .43 .ensures) (w .47 .ensures) (w .51 .ensures)))
+      number = w .26 .last .0;
+      member = w .29 .last .0;
+      side = w .32 .last .0;
+      validity = w .35 .last .0;
+      left = w .38 .last .0;
+      limit = w .41 .last .0;
+      quoted = w .44 .last .0;
+    }) (w .46) (w .14 .result) (w .48) (let e = rw (asks-part (planned .result .bids) (planned .result .asks) (ranks p), w .5 .ensures, w .6 .ensures) at (w .14 .ensures) in (e .0, e .1, λ h. w .45 ∙ e .2 h)) (w .20 .result) (w .20 .ensures)
+    (settled-as (w .14 .result .rests) (a .t1 .book) (w .20 .result) (w .23 .ensures) (w .26 .ensures) (w .29 .ensures) (w .32 .ensures) (w .35 .ensures) (w .38 .ensures) (w .41 .ensures) (w .44 .ensures)))
     (λ w. leaves-kept (a .t1) (start p .pre) (a .which) (a .list .now) (m .match .course) (course-at m) (m .match .session) (m .match .count) (m .match .list)
     (c .before .before .before .before .before .answer-of .result) (c .before .before .before .before .before .answer-of .ensures) (c .before .before .before .before .result-of .result) (c .before .before .before .before .result-of .ensures) (c .before .before .standing-after .result) (c .before .before .standing-after .ensures)
     (ap takesPlace (w .3) ∙ not-taking (planned .result .course) (w .0 .keys2)) (w .2) (w .4) (w .1))
