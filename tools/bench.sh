@@ -57,8 +57,8 @@ table m 'mixed orders: instructions'
 table o 'one limit: instructions'
 table w 'the worst: instructions'
 echo
-# Two orders: no frame depends on the book.
-printf %s ama >"$dir/stdin"
+# The longest queue: the sort calls itself more often for more ranks, and nothing else depends on the book.
+printf %s dwa >"$dir/stdin"
 stack=$(sh tools/stack.sh target/bin/auction_cost answers::auction "$dir/stdin") || exit 1
 echo "stack of an auction: $stack bytes"
 
