@@ -169,6 +169,9 @@ fn check_quote(fields: [u64; 5]) -> Result<(), Refusal> {
 struct Session {
     phase: Phase,
     step: u64,
+    /// K4: the start record's reference price, for controls 6 and 8; no auction changes it.
+    start_reference: u64,
+    /// The reference price in force, for all else.
     reference: u64,
     factor: u64,
     threshold: u64,
@@ -183,6 +186,7 @@ impl Session {
         Session {
             phase: Phase::Fresh,
             step: 0,
+            start_reference: 0,
             reference: 0,
             factor: 0,
             threshold: 0,
@@ -199,7 +203,8 @@ impl Session {
         refuse(3, self.phase != Phase::Fresh)?;
         // "Phases": start leads to pre-opening.
         self.phase = Phase::PreOpening;
-        [self.step, self.reference, self.factor, self.threshold, self.maximum] = fields;
+        [self.step, self.start_reference, self.factor, self.threshold, self.maximum] = fields;
+        self.reference = self.start_reference;
         Ok(())
     }
 
@@ -217,7 +222,7 @@ impl Session {
             refuse(6, self.at_the_collar(limit))?;
             refuse(7, self.too_large(quantity, limit))?;
         }
-        refuse(8, self.too_large(quantity, self.reference))?;
+        refuse(8, self.too_large(quantity, self.start_reference))?;
         refuse(9, self.numbers_given == *ORDER_NUMBER.end())?;
         refuse(10, self.book.iter().all(Option::is_some))?;
         let (number, open, quote_side) = (self.numbers_given + 1, quantity, false);
@@ -246,7 +251,7 @@ impl Session {
             refuse(7, self.too_large(quantity, limit))?;
         }
         for (_, quantity, _) in sides {
-            refuse(8, self.too_large(quantity, self.reference))?;
+            refuse(8, self.too_large(quantity, self.start_reference))?;
         }
         // K2: 9 when fewer than two numbers are left.
         refuse(9, self.numbers_given + 2 > *ORDER_NUMBER.end())?;
@@ -273,12 +278,12 @@ impl Session {
         !limit.is_multiple_of(self.step)
     }
 
-    /// Refusal 6: at either end "reaches" counts as a hit.
+    /// Refusal 6, by the start's reference price (K4): at either end "reaches" counts as a hit.
     fn at_the_collar(&self, limit: u64) -> bool {
-        limit >= self.reference * self.factor || limit * self.factor <= self.reference
+        limit >= self.start_reference * self.factor || limit * self.factor <= self.start_reference
     }
 
-    /// Refusals 7 and 8, at the limit and at the reference price.
+    /// Refusals 7 and 8, at the limit and at the start's reference price (K4).
     fn too_large(&self, quantity: u64, price: u64) -> bool {
         quantity * price >= self.maximum
     }
@@ -359,6 +364,7 @@ impl Session {
     fn carry_out(&mut self, auction: Auction, answer: &Answer) {
         if answer.outcome == TRADES {
             self.take_off(&answer.trades);
+            // The price becomes the reference price in force; K4: the start's stays.
             self.reference = answer.price;
         }
         let (deleted, next): (&[u64], Phase) = match auction {

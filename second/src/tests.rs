@@ -428,6 +428,7 @@ fn order_of_checks() {
     );
 }
 
+/// K4: the new reference price, 100,200, would let 901,700 pass 6 and refuse 9,980,040 by 8.
 #[test]
 fn phases_rests_and_new_reference() {
     check(
@@ -461,9 +462,9 @@ fn phases_rests_and_new_reference() {
             "trade 1 2 30",
             "7 delete 11",
             "8 order 4 0",
-            "9 order 0 5",
+            "9 order 6 0",
             "10 order 6 0",
-            "11 order 8 0",
+            "11 order 0 5",
             "12 delete 0",
             "13 auction 0 2 0 0 0",
             "14 delete 11",
@@ -1361,7 +1362,8 @@ fn quote_until_the_close() {
     assert_eq!(places(&session(&records[..4])), before);
 }
 
-/// Controls 6 and 8 go by the reference price in force, as for an order.
+/// K4: control 6 goes by the start's reference price, as for an order. The new one would refuse
+/// the bid of 11,200 and let the ask of 900,000 pass.
 #[test]
 fn quote_after_a_new_reference() {
     check(
@@ -1373,6 +1375,7 @@ fn quote_after_a_new_reference() {
             auction(OPENING),
             quote(11_200, 900_000),
             quote(11_300, 900_000),
+            quote(11_200, 899_900),
         ],
         &[
             "1 start 0",
@@ -1382,8 +1385,9 @@ fn quote_after_a_new_reference() {
             "5 auction 0 1 101400 10 1",
             "trade 1 2 10",
             "6 quote 6 0 0",
-            "7 quote 0 5 6",
-            "end 7",
+            "7 quote 6 0 0",
+            "8 quote 0 5 6",
+            "end 8",
         ],
     );
 }
@@ -1435,4 +1439,295 @@ fn write_a_quote() {
     assert_eq!(written, quote_of(7, (50, 100_200), (258, 100_400)));
     assert_eq!(write(&Record::Quote([7, 50, 0, 258, 100_400]), &mut written), Err(1));
     assert_eq!(written.len(), 22);
+}
+
+/// K4: opens at a price far from the start's reference price of 100,000. The opening is delayed and
+/// asked again; then the price is the reference price in force and the book is empty.
+fn opened_at(price: u32) -> Vec<Vec<u8>> {
+    let (buy, sell) = (day(BUY, 10, price), day(SELL, 10, price));
+    vec![start(), buy, sell, auction(OPENING), auction(OPENING)]
+}
+
+/// Runs the records after such an opening, and compares the lines behind the opening's.
+fn check_opened_at(price: u32, records: &[Vec<u8>], expected: &[&str]) {
+    let delayed = format!("4 auction 0 4 {price} 10 0");
+    let opened = format!("5 auction 0 1 {price} 10 1");
+    let opening = ["1 start 0", "2 order 0 1", "3 order 0 2", &delayed, &opened, "trade 1 2 10"];
+    check(&[&opened_at(price)[..], records].concat(), &[&opening[..], expected].concat());
+}
+
+/// K4: control 6 passes 11,200 to 899,900 all day. By 500,000 it would pass 55,600 to 4,499,900.
+#[test]
+fn collar_after_a_rise() {
+    check_opened_at(
+        500_000,
+        &[
+            day(BUY, 1, 55_500),
+            day(SELL, 1, 11_200),
+            day(SELL, 1, 11_100),
+            day(BUY, 1, 899_900),
+            day(BUY, 1, 900_000),
+            order_of(8, SELL, 4, 1, 900_000),
+            day(SELL, 1, 4_499_900),
+            day(SELL, 1, 4_500_000),
+            // 6 goes before 7.
+            day(BUY, 10_000_000, 900_000),
+        ],
+        &[
+            "6 order 0 3",
+            "7 order 0 4",
+            "8 order 6 0",
+            "9 order 0 5",
+            "10 order 6 0",
+            "11 order 6 0",
+            "12 order 6 0",
+            "13 order 6 0",
+            "14 order 6 0",
+            "end 14",
+        ],
+    );
+}
+
+/// K4: by 20,000 control 6 would pass 2,300 to 179,900.
+#[test]
+fn collar_after_a_fall() {
+    check_opened_at(
+        20_000,
+        &[
+            day(BUY, 1, 180_000),
+            day(SELL, 1, 899_900),
+            order_of(8, SELL, 2, 1, 899_900),
+            day(SELL, 1, 900_000),
+            day(BUY, 1, 11_200),
+            day(BUY, 1, 11_100),
+            day(SELL, 1, 11_100),
+            day(SELL, 1, 2_300),
+            day(SELL, 1, 2_200),
+        ],
+        &[
+            "6 order 0 3",
+            "7 order 0 4",
+            "8 order 0 5",
+            "9 order 6 0",
+            "10 order 0 6",
+            "11 order 6 0",
+            "12 order 6 0",
+            "13 order 6 0",
+            "14 order 6 0",
+            "end 14",
+        ],
+    );
+}
+
+/// K4: control 8 refuses 10,000,000 and no less all day. By 500,000 it would refuse 2,000,000.
+#[test]
+fn value_after_a_rise() {
+    check_opened_at(
+        500_000,
+        &[
+            day(BUY, 2_000_000, UNLIMITED),
+            day(SELL, 9_999_999, UNLIMITED),
+            day(BUY, 10_000_000, UNLIMITED),
+            day(BUY, 2_000_000, 499_900),
+            day(SELL, 9_999_999, 100_000),
+            day(SELL, 10_000_000, 99_900),
+            // Control 7 has no reference price in it.
+            day(BUY, 4_999_999, 200_000),
+            day(BUY, 5_000_000, 200_000),
+            day(BUY, 2_000_000, 500_000),
+        ],
+        &[
+            "6 order 0 3",
+            "7 order 0 4",
+            "8 order 8 0",
+            "9 order 0 5",
+            "10 order 0 6",
+            "11 order 8 0",
+            "12 order 0 7",
+            "13 order 7 0",
+            "14 order 7 0",
+            "end 14",
+        ],
+    );
+}
+
+/// K4: by 20,000 control 8 would refuse nothing.
+#[test]
+fn value_after_a_fall() {
+    check_opened_at(
+        20_000,
+        &[
+            day(SELL, 10_000_000, UNLIMITED),
+            day(SELL, 9_999_999, UNLIMITED),
+            day(BUY, 10_000_000, 99_900),
+            day(BUY, 9_999_999, 99_900),
+            day(BUY, 10_000_000, 20_000),
+            // Control 7 has no reference price in it.
+            day(BUY, 10_000_000, 100_000),
+            day(BUY, 4_999_999, 200_000),
+            day(BUY, 5_000_000, 200_000),
+        ],
+        &[
+            "6 order 8 0",
+            "7 order 0 3",
+            "8 order 8 0",
+            "9 order 0 4",
+            "10 order 8 0",
+            "11 order 7 0",
+            "12 order 0 5",
+            "13 order 7 0",
+            "end 13",
+        ],
+    );
+}
+
+/// K4: the same for each side of a quote.
+#[test]
+fn quote_after_a_rise() {
+    check_opened_at(
+        500_000,
+        &[
+            // 500,000 would refuse the bid by 6, then both sides.
+            quote(11_200, 899_900),
+            quote(11_200, 55_500),
+            quote(11_100, 100_000),
+            // 500,000 would let the ask pass 6, then both sides.
+            quote(100_000, 900_000),
+            quote(900_000, 4_499_900),
+            // 500,000 would refuse the bid by 8, then the ask.
+            quote_of(7, (9_999_999, 99_800), (1, 99_900)),
+            quote_of(7, (1, 99_800), (9_999_999, 99_900)),
+            quote_of(7, (10_000_000, 99_800), (1, 99_900)),
+            quote_of(7, (1, 99_800), (10_000_000, 99_900)),
+        ],
+        &[
+            "6 quote 0 3 4",
+            "7 quote 0 5 6",
+            "8 quote 6 0 0",
+            "9 quote 6 0 0",
+            "10 quote 6 0 0",
+            "11 quote 0 7 8",
+            "12 quote 0 9 10",
+            "13 quote 8 0 0",
+            "14 quote 8 0 0",
+            "end 14",
+        ],
+    );
+}
+
+#[test]
+fn quote_after_a_fall() {
+    check_opened_at(
+        20_000,
+        &[
+            // 20,000 would refuse the ask by 6, then both sides.
+            quote(11_200, 899_900),
+            quote(180_000, 180_100),
+            quote(11_200, 900_000),
+            // 20,000 would let the bid pass 6, then both sides.
+            quote(11_100, 20_000),
+            quote(2_300, 11_100),
+            // 20,000 would let the bid pass 8, then the ask.
+            quote_of(7, (10_000_000, 99_800), (1, 99_900)),
+            quote_of(7, (1, 99_800), (10_000_000, 99_900)),
+            quote_of(7, (9_999_999, 99_800), (9_999_999, 99_900)),
+        ],
+        &[
+            "6 quote 0 3 4",
+            "7 quote 0 5 6",
+            "8 quote 6 0 0",
+            "9 quote 6 0 0",
+            "10 quote 6 0 0",
+            "11 quote 8 0 0",
+            "12 quote 8 0 0",
+            "13 quote 0 7 8",
+            "end 13",
+        ],
+    );
+}
+
+/// K4: a start that is refused, by 3 or by 1, moves neither of the reference prices.
+#[test]
+fn refused_start_moves_no_reference() {
+    let other = start_with(100, 500_000, 2, 1, 1);
+    let bad = start_with(100, 500_050, 9, 150, 1_000_000_000_000);
+    let orders = [day(BUY, 1, 899_900), day(BUY, 1, 900_000), day(BUY, 9_999_999, UNLIMITED)];
+    let refused = [bad.clone(), start(), other.clone(), bad.clone()];
+    check(
+        &[&refused[..], &orders].concat(),
+        &[
+            "1 start 1",
+            "2 start 0",
+            "3 start 3",
+            "4 start 1",
+            "5 order 0 1",
+            "6 order 6 0",
+            "7 order 0 2",
+            "end 7",
+        ],
+    );
+    let last = [day(SELL, 9_999_999, UNLIMITED), delete(3, 7), auction(CLOSING)];
+    check_opened_at(
+        20_000,
+        &[&[other, bad], &orders[..], &last].concat(),
+        &[
+            "6 start 3",
+            "7 start 1",
+            "8 order 0 3",
+            "9 order 6 0",
+            "10 order 0 4",
+            "11 order 0 5",
+            "12 delete 0",
+            "13 auction 0 1 20000 9999999 1",
+            "trade 4 5 9999999",
+            "end 13",
+        ],
+    );
+}
+
+/// Opens at the price, enters the orders and holds a closing: its four numbers, foreseen too, and
+/// its trade.
+fn check_closing(price: u32, orders: &[Vec<u8>], numbers: [u64; 4], trade: &str) {
+    let mut session = session(&[&opened_at(price)[..], orders].concat());
+    assert_eq!(theoretical(&session, CLOSING), Ok(numbers));
+    let [outcome, price, quantity, count] = numbers;
+    let lines = format!("auction 0 {outcome} {price} {quantity} {count}\ntrade {trade}\n");
+    assert_eq!(answer(&mut session, &Record::Auction([2])), lines);
+}
+
+/// K4: the closing's nearest price goes by the reference price in force.
+#[test]
+fn closing_nearest_to_the_reference_in_force() {
+    // The reference price in force is kept, and so would 100,000 be.
+    let orders = [day(BUY, 100, 600_000), day(SELL, 100, 15_000)];
+    check_closing(500_000, &orders, [1, 500_000, 100, 1], "3 4 100");
+    check_closing(20_000, &orders, [1, 20_000, 100, 1], "3 4 100");
+    // It isn't kept: one of the limits. 100,000 would be kept, and is nearest to the other limit.
+    let orders = [day(BUY, 100, 450_000), day(SELL, 100, 80_000)];
+    check_closing(500_000, &orders, [1, 450_000, 100, 1], "3 4 100");
+    let orders = [day(BUY, 100, 110_000), day(SELL, 100, 30_000)];
+    check_closing(20_000, &orders, [1, 30_000, 100, 1], "3 4 100");
+    // The book of P9, surplus on both sides.
+    let orders = [
+        day(BUY, 100, 100_400),
+        day(BUY, 20, 100_200),
+        day(SELL, 100, 99_800),
+        day(SELL, 20, 100_400),
+    ];
+    check_closing(500_000, &orders, [1, 100_400, 100, 1], "3 5 100");
+    check_closing(20_000, &orders, [1, 99_800, 100, 1], "3 5 100");
+}
+
+/// K4: the closing's candidate beside the limits is the reference price in force.
+#[test]
+fn closing_candidate_is_the_reference_in_force() {
+    // The only one.
+    let orders = [day(BUY, 50, UNLIMITED), day(SELL, 50, UNLIMITED)];
+    check_closing(500_000, &orders, [1, 500_000, 50, 1], "3 4 50");
+    check_closing(20_000, &orders, [1, 20_000, 50, 1], "3 4 50");
+    // The highest with demand to spare, the lowest with supply to spare.
+    let orders = [day(BUY, 100, UNLIMITED), day(SELL, 60, 90_000)];
+    check_closing(500_000, &orders, [1, 500_000, 60, 1], "3 4 60");
+    let orders = [day(BUY, 60, 600_000), day(SELL, 100, UNLIMITED)];
+    check_closing(20_000, &orders, [1, 20_000, 60, 1], "3 4 60");
 }
