@@ -528,10 +528,29 @@ def closing_far():
 
 @sample
 def two_auctions():
-    """The opening moves the reference price to 101,400: the controls then refuse 11,200 and pass 900,000, and unlimited orders close at it."""
+    """The opening moves the reference price to 101,400 and unlimited orders close at it; the controls pass 11,200 and refuse 900,000 as before it."""
     return [
         start(), buy(10, 101_400), sell(10, 101_400), buy(1, 11_200), sell(1, 900_000), OPENING,
         buy(1, 11_200), sell(1, 900_000), buy(50), sell(50), CLOSING,
+    ]
+
+
+@sample
+def yesterday_passes():
+    """Opened at 400,000, the controls stay the start's (K4): 12,000 passes 6 and 2,500,000 pass 8, as orders and as a quote's sides; by 400,000 neither would."""
+    return [
+        start(), buy(10, 400_000), sell(10, 400_000), OPENING, OPENING, buy(10, 12_000), buy(2_500_000),
+        quote((10, 12_000), (10, 500_000)), quote((10, 12_000), (2_500_000, 300_000)), CLOSING,
+    ]
+
+
+@sample
+def yesterday_refuses():
+    """Opened at 25,000, the controls stay the start's (K4): 11,100 is refused by 6 and 10,000,000 by 8, which would pass by 25,000; as a quote's sides, too."""
+    return [
+        start(), buy(10, 25_000), sell(10, 25_000), OPENING, OPENING, buy(10, 11_100), buy(10, 11_200),
+        sell(10_000_000), sell(10_000_000, 25_000), sell(9_999_999, 25_000), quote((10, 11_100), (10, 25_100)),
+        quote((10, 24_900), (10_000_000, 25_100)), quote((10, 24_900), (9_999_999, 25_100)), CLOSING,
     ]
 
 
@@ -711,6 +730,12 @@ def tie_4_below():
 def tie_4_both_sides():
     """The price, step 4: at 99,400 20 are left of the buys, at 99,800 20 of the sells, and the nearer to the reference price is taken."""
     return [start(), buy(100, 99_800), buy(20, 99_400), sell(100, 99_400), sell(20, 99_800), OPENING]
+
+
+@sample
+def tie_4_in_force():
+    """The price, step 4, in a closing: of 100,300 and 101,200 the nearer to the opening's 101,400 is taken, not the nearer to the start's 100,000."""
+    return [start(), buy(10, 101_400), sell(10, 101_400), OPENING, buy(40, 101_200), sell(40, 100_300), CLOSING]
 
 
 # Files that are empty, cut or faulty

@@ -20,6 +20,8 @@ pub struct Seen<'a> {
 /// Of K2: the side that a quote is refused for, and by an ask before a later check on the bid; what
 /// a quote overwrites, and beside what; free places and sides left where there are just two for it,
 /// or fewer; that the old quote stays; what becomes of sides, and who trades with whom.
+/// Of K4: the answer by the controls, where the price in force would have given another; and that
+/// the start's reference price would have closed at another price.
 pub const RULES: &Rules = &[
     ("start", &["0", "1", "3"]),
     ("order", &["0", "1", "2", "4", "5", "6", "7", "8", "9", "10"]),
@@ -37,6 +39,9 @@ pub const RULES: &Rules = &[
     ("old one stays", &["1", "13", "5", "6", "7", "8", "10", "then deleted", "then traded"]),
     ("quote side", &["deleted", "overwritten: 11", "in the opening", "in the closing", "gone"]),
     ("trade of", &["two orders", "two quotes", "both", "both, of one member"]),
+    ("order by start", &["0 not 6", "0 not 8", "6 not 0", "8 not 0"]),
+    ("quote by start", &["0 not 6", "0 not 8", "6 not 0", "8 not 0"]),
+    ("closing", &["not by start"]),
     ("opening, outcome", &["1", "2", "3", "4"]),
     ("closing, outcome", &["1", "2"]),
     ("fault", &["unknown kind", "wrong length", "cut record", "cut header"]),
@@ -55,8 +60,8 @@ struct Resting {
     quoted: bool,
 }
 
-/// The rule that decides among these orders taking part.
-fn deciding(orders: &[&Resting], reference: u64) -> &'static str {
+/// The rule that decides among these orders taking part, and the price.
+fn deciding(orders: &[&Resting], reference: u64) -> (&'static str, u64) {
     let limits = orders.iter().map(|order| order.limit).filter(|limit| *limit != UNLIMITED);
     let mut prices: Vec<u64> = limits.chain([reference]).collect();
     prices.sort_unstable();
@@ -67,22 +72,27 @@ fn deciding(orders: &[&Resting], reference: u64) -> &'static str {
         };
         orders.iter().filter(counts).map(|order| order.left).sum()
     };
-    // Demand and supply at each candidate.
-    let weigh = |price| (open(BUY, &|limit| limit >= price), open(SELL, &|limit| limit <= price));
-    let mut kept: Vec<(u64, u64)> = prices.into_iter().map(weigh).collect();
+    // Demand and supply at each candidate, in order of price.
+    let weigh = |price| {
+        let (demand, supply) =
+            (open(BUY, &|limit| limit >= price), open(SELL, &|limit| limit <= price));
+        (demand, supply, price)
+    };
+    let mut kept: Vec<(u64, u64, u64)> = prices.into_iter().map(weigh).collect();
     let highest = kept.iter().map(|at| min(at.0, at.1)).max();
     kept.retain(|at| Some(min(at.0, at.1)) == highest);
-    if kept.len() == 1 {
-        return "1 alone";
-    }
+    let rule_1 = kept.len() == 1;
     let smallest = kept.iter().map(|at| at.0.abs_diff(at.1)).min();
     kept.retain(|at| Some(at.0.abs_diff(at.1)) == smallest);
+    let nearest = kept.iter().map(|at| at.2).min_by_key(|price| price.abs_diff(reference));
+    let price = |at: Option<&(u64, u64, u64)>| at.map_or(0, |at| at.2);
     match (kept.iter().any(|at| at.0 > at.1), kept.iter().any(|at| at.0 < at.1)) {
-        _ if kept.len() == 1 => "2",
-        (true, false) => "3 highest",
-        (false, true) => "3 lowest",
-        (false, false) => "4 all equal",
-        (true, true) => "4 both exceed",
+        _ if rule_1 => ("1 alone", price(kept.first())),
+        _ if kept.len() == 1 => ("2", price(kept.first())),
+        (true, false) => ("3 highest", price(kept.last())),
+        (false, true) => ("3 lowest", price(kept.first())),
+        (false, false) => ("4 all equal", nearest.unwrap_or(0)),
+        (true, true) => ("4 both exceed", nearest.unwrap_or(0)),
     }
 }
 
@@ -107,6 +117,14 @@ impl Followed {
     /// A record with its answer and the two numbers behind it.
     fn answered(&mut self, record: &Record, answer: &str, told: [u64; 2], counts: &mut Counts) {
         let [first, second, third, fourth, fifth] = record.values;
+        match record.kind {
+            ORDER => self.by_start("order by start", &[(fourth, fifth)], answer, counts),
+            QUOTE => {
+                let sides = [(second, third), (fourth, fifth)];
+                self.by_start("quote by start", &sides, answer, counts);
+            }
+            _ => {}
+        }
         match (record.kind, answer) {
             (START, "0") => (self.terms, self.reference) = (record.values, second),
             (ORDER, "0") => {
@@ -186,7 +204,7 @@ impl Followed {
             self.stays.insert(member);
         }
         if ["5", "6", "7", "8"].contains(&answer) {
-            let hits = self.controls(bid_quantity, bid_limit);
+            let hits = self.controls(self.terms[1], bid_quantity, bid_limit);
             let side = if hits.contains(&answer) { "bid" } else { "ask" };
             counts.add("quote, by its", &format!("{side} {answer}"));
             // Of 5 to 8 the answer is the first hit: those of the bid come later.
@@ -196,17 +214,30 @@ impl Followed {
         }
     }
 
-    /// Those of 5 to 8 that a quantity with a limit would meet.
-    fn controls(&self, quantity: u64, limit: u64) -> Vec<&'static str> {
-        let ([step, _, factor, _, maximum], reference) = (self.terms, self.reference);
+    /// Those of 5 to 8 that a quantity with a limit would meet, by a reference price.
+    fn controls(&self, reference: u64, quantity: u64, limit: u64) -> Vec<&'static str> {
+        let ([step, _, factor, _, maximum], limited) = (self.terms, limit != UNLIMITED);
         let collar = limit >= reference * factor || limit * factor <= reference;
         let met = [
-            ("5", limit % step > 0),
-            ("6", collar),
-            ("7", quantity * limit >= maximum),
+            ("5", limited && limit % step > 0),
+            ("6", limited && collar),
+            ("7", limited && quantity * limit >= maximum),
             ("8", quantity * reference >= maximum),
         ];
         met.into_iter().filter(|(_, hit)| *hit).map(|(number, _)| number).collect()
+    }
+
+    /// K4: whether the controls would answer otherwise by the price in force.
+    fn by_start(&self, word: &str, sides: &[(u64, u64)], answer: &str, counts: &mut Counts) {
+        // With any other answer there may have been no start.
+        if !["0", "6", "8"].contains(&answer) {
+            return;
+        }
+        let met = |side: &(u64, u64)| self.controls(self.reference, side.0, side.1);
+        let other = sides.iter().flat_map(met).min().unwrap_or("0");
+        if let ("0", "6" | "8") | ("6" | "8", "0") = (answer, other) {
+            counts.add(word, &format!("{answer} not {other}"));
+        }
     }
 
     /// The trades come in the lines that follow: rests that are deleted are gone before them.
@@ -216,7 +247,11 @@ impl Followed {
         if price > 0 {
             let part = |order: &&Resting| !opening || order.validity != AT_THE_CLOSE;
             let orders: Vec<&Resting> = self.resting.values().filter(part).collect();
-            counts.add("price by rule", deciding(&orders, self.reference));
+            let (rule, price) = deciding(&orders, self.reference);
+            counts.add("price by rule", rule);
+            if price != deciding(&orders, self.terms[1]).1 {
+                counts.add("closing", "not by start");
+            }
         }
         if outcome == 1 {
             self.reference = price;

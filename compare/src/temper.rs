@@ -48,7 +48,7 @@ struct Maker {
 
 type Temper = fn(&mut Maker);
 
-const TEMPERS: [(&str, Temper); 19] = [
+const TEMPERS: [(&str, Temper); 20] = [
     ("crossing books", crossing),
     ("ties", ties),
     ("both sides unlimited", both_unlimited),
@@ -60,6 +60,7 @@ const TEMPERS: [(&str, Temper); 19] = [
     ("prices at the collar", collar),
     ("values at the maximum", values),
     ("quotes", quotes),
+    ("far from yesterday", far_from_yesterday),
     ("bad fields", bad_fields),
     ("wrong phases", wrong_phases),
     ("two sessions", two_sessions),
@@ -70,7 +71,7 @@ const TEMPERS: [(&str, Temper); 19] = [
     ("far over 64 KiB", far),
 ];
 /// The first so many make good files, for others to cut, to damage and to put together.
-const GOOD: u64 = 11;
+const GOOD: u64 = 12;
 
 /// The name of a seed's temperament, and its file. Seed 0 is the one that gives its last number.
 pub fn session_file(seed: u64) -> (&'static str, Vec<u8>) {
@@ -519,7 +520,8 @@ fn reused_places(maker: &mut Maker) {
     }
 }
 
-/// Limits at both ends, a step inside and a step outside; then the same at a new reference price.
+/// Limits at both ends, a step inside and a step outside; after an opening also at those that the
+/// new reference price would set.
 fn collar(maker: &mut Maker) {
     let unit = maker.step * maker.factor;
     if unit <= PRICE_MAX && maker.dice.once_in(2) {
@@ -529,9 +531,11 @@ fn collar(maker: &mut Maker) {
     // The large ones are refused by 7 too, but by 6 first.
     maker.maximum = 2_000 * maker.reference * maker.factor;
     maker.start();
+    let yesterday = maker.reference;
     for auction in [OPENING, OPENING, CLOSING] {
         for _ in 0..12 {
-            let (low, high) = (maker.reference / unit, maker.reference * maker.factor / maker.step);
+            let by = maker.dice.one_of(&[yesterday, maker.reference]);
+            let (low, high) = (by / unit, by * maker.factor / maker.step);
             let end = maker.dice.one_of(&[low, high]);
             let limit = maker.dice.about(end) * maker.step + u64::from(maker.dice.once_in(9));
             let (side, quantity) = (maker.side(), maker.dice.one_of(&[1, 1, 1, 5_000]));
@@ -578,6 +582,46 @@ fn values(maker: &mut Maker) {
         }
         maker.auction(auction);
     }
+}
+
+/// K4: an opening far from the start's reference price; then limits at the ends, and quantities at
+/// the maximum, of the controls as they are and as the price in force would set them; and a closing,
+/// whose price may hang on that one.
+fn far_from_yesterday(maker: &mut Maker) {
+    maker.step = maker.dice.one_of(&[1, 5, 100]);
+    maker.factor = maker.dice.one_of(&[2, 3, 9]);
+    let unit = maker.step * maker.factor;
+    // So that a limit times the factor can be the reference price.
+    maker.reference = unit * maker.dice.within(100..=1_000);
+    let inside = maker.reference / unit + 1..=maker.reference * maker.factor / maker.step - 1;
+    let price = maker.step * maker.dice.within(inside);
+    let prices = [maker.reference, price];
+    // The pair that opens passes 7 and 8.
+    let value = maker.dice.within(100..=1_000) * maker.dice.one_of(&prices);
+    maker.maximum = maker.dice.about(value);
+    maker.start();
+    maker.order(BUY, DAY, 1, price);
+    maker.order(SELL, DAY, 1, price);
+    maker.opening();
+    for _ in 0..maker.dice.within(4..=12) {
+        let (by, side) = (maker.dice.one_of(&prices), maker.side());
+        let ends = [by / unit, by * maker.factor / maker.step];
+        let limits = ends.map(|end| maker.dice.about(end) * maker.step);
+        let (limit, near) = (maker.dice.one_of(&limits), maker.near(20));
+        let limit = maker.dice.one_of(&[limit, limit, near, UNLIMITED]);
+        let most = maker.dice.about(maker.maximum / by);
+        let quantity = maker.dice.one_of(&[1, 1, most]);
+        let validity = maker.dice.one_of(&[DAY, TILL_LATER, AT_THE_CLOSE]);
+        maker.order(side, validity, quantity, limit);
+        if maker.dice.once_in(3) {
+            let (member, [bid, ask]) = (maker.dice.within(1..=MEMBERS), maker.spread(20));
+            let [bid, ask] =
+                maker.dice.one_of(&[[bid, ask], [limits[0], ask], [bid, limits[1]], limits]);
+            let [one, other] = maker.dice.one_of(&[[1, 1], [most, 1], [1, most]]);
+            maker.quote([member, one, bid, other, ask]);
+        }
+    }
+    maker.auction(CLOSING);
 }
 
 /// K2: few members' quotes, overwritten again and again, with plain orders of these members in
