@@ -14,5 +14,6 @@ pub mod Traded
 pub mod Auctioned
 pub mod EveryRun
 pub mod FilledFronts
+pub mod References
 pub mod Files
 pub mod Writing

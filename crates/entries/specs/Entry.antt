@@ -30,9 +30,10 @@ startDone s x = record { answer = 0; session = begun s (parametersFrom x) }
 unfoldable pub started : Session → Start → Started
 started s x = answered (startChecks s x) (startRefused s) (startDone s x)
 
--- the reference price that the controls use: the one in force
+-- the reference price that controls 6 and 8 use: that of the start record, the previous trading day's, for the whole session (02 K4; 004 clause
+-- 10)
 abbrev pub controlReference : Session → Price
-controlReference s = s .reference
+controlReference s = s .parameters .reference
 
 -- Order: 1, 2, 4, 5, 6, 7, 8, 9, 10.
 abbrev pub orderChecks : Session → Entry → List Check

@@ -88,7 +88,7 @@ pub fn order(session: Session, e: Entry) -> Entered
     let effect = order_effect(
         phase,
         parameters,
-        session.reference,
+        parameters.reference,
         session.given,
         &session.book.taken,
         e,
@@ -146,7 +146,7 @@ pub fn quote(session: Session, e: QuoteEntry) -> Quoted
     let effect = quote_effect(
         phase,
         parameters,
-        session.reference,
+        parameters.reference,
         session.given,
         &session.book.taken,
         Pair { bid, ask },

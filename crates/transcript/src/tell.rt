@@ -109,7 +109,7 @@ fn records_told(
                     record,
                     phase,
                     parameters,
-                    present.reference,
+                    parameters.reference,
                     present.given,
                     &present.book.taken,
                     &present.book.number,

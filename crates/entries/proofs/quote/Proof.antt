@@ -5,11 +5,11 @@ use Rattle.entries.proofs.quote.Statement.{statement}
 use Rattle.entries.proofs.quote.Tie as tie
 
 abbrev start : tie.After-quote-effect → tie.Start
-start c = c .before .before .before .before .before .before .before .before .before .before .before .before .before .before .before
+start c = c .before .before .before .before .before .before .before .before .before .before .before .before .before .before
 
 -- the effect is the session's
 effect-in : (c : tie.After-quote-effect) → let a = start c .args in c .quote-effect .result ≡ quoteIn (a .t1) (a .e)
-effect-in c = rw (c .before .before .before .before .before .before .before .before .before .quote-place .ensures, c .before .before .before .before .quote-place2 .ensures) at (c .quote-effect .ensures)
+effect-in c = rw (c .before .before .before .before .before .before .before .before .quote-place .ensures, c .before .before .before .quote-place2 .ensures) at (c .quote-effect .ensures)
 
 quote-place-requires : tie.Need-quote-place-requires
 quote-place-requires c κs = search needs

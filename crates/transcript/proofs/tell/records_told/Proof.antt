@@ -35,7 +35,7 @@ abbrev turn : tie.After-known-told Inv-loop μ-loop → tie.At-loop Inv-loop μ-
 turn c = c .before .before .before .before .before
 
 abbrev asked : tie.After-doing-of Inv-loop μ-loop → tie.After-known-told Inv-loop μ-loop
-asked c = c .before .before .before .before .before .before .before .before .before .before .before
+asked c = c .before .before .before .before .before .before .before .before .before .before
 
 -- the record that is told next brings the place further, and there is room for its lines
 onward : (c : tie.After-known-told Inv-loop μ-loop) → let l = turn c .loop in
@@ -94,7 +94,7 @@ add-count c =
 
 doing-of-requires : tie.Need-doing-of-requires Inv-loop μ-loop
 doing-of-requires c κs =
-    let l = turn (c .before .before .before .before .before .before .before .before .before .before) .loop in
+    let l = turn (c .before .before .before .before .before .before .before .before .before) .loop in
     let s = l .present in
     let sound = l .inv .0 .sound in
     (sound-numbered (legalPrice s) (s .given) (s .book) (sound .book-sound), quotes-known s sound (l .inv .3) (l .inv .4))
