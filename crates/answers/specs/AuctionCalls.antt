@@ -1,4 +1,4 @@
--- The auction and the theoretical answer from what their code learns on the way, for the promises of `auction` and `theoretical`.
+-- The auction from what its code learns on the way, for the promise of `auction`; the outcome and the trades counted also for the theoretical answer.
 use Prim.Native.Nat.{ℕ, zero, suc, _*_, _≤_}
 use mathlib.Core.Bool.{Bool, true, false, true≢false}
 use mathlib.Core.Logic.{_≢_}
@@ -8,7 +8,7 @@ use native.Mathlib.Omega.{arith}
 use borrow.Author.Tests.{ltb-false}
 use lib.ListN.{length, take, drop}
 use Rattle.terms.specs.Bounds.{places, tradeListLength}
-use Rattle.terms.specs.Orders.{isAuction, auctionFrom}
+use Rattle.terms.specs.Orders.{auctionFrom}
 use Rattle.terms.specs.declared.kinds.{Price.Price}
 use Rattle.terms.specs.declared.orders.{Side.Side, Side.the-variants.Buy, Side.the-variants.Sell, Auction.Auction}
 use Rattle.book.specs.declared.Book.{Book}
@@ -28,17 +28,17 @@ use Rattle.auction.specs.OutcomeIn.{outcome-in}
 use Rattle.auction.specs.TradesIn.{trades-in, rests-in}
 use Rattle.trades.specs.Written.{quadruples}
 use Rattle.session.specs.declared.{Session.Session}
-use Rattle.answers.specs.declared.{AuctionAnswer.AuctionAnswer}
-use Rattle.refusals.specs.Phases.{phaseAfter}
-use Rattle.refusals.specs.Checks.{Check, firstHit, answeredBy, answered-refused, answered-done, hits, passes}
-use Rattle.refusals.specs.Rows.{theoreticalLater}
+use Rattle.controls.specs.Phases.{phaseAfter}
+use Rattle.refusals.specs.Checks.{Check, firstHit, answeredBy}
 use Rattle.refusals.specs.Exactly.{clear}
 use Rattle.session.specs.Sound.{legalPrice, legal-in-range, Sound, number-room}
 use Rattle.session.specs.State.{withBook, passedOn, delayGiven, part}
-use Rattle.answers.specs.declared.course.{Course.Course, Course.the-variants.Refused, Course.the-variants.TakesPlace, Plan.Plan, Standing.Standing}
+use Rattle.courses.specs.declared.{AuctionAnswer.AuctionAnswer, Course.Course, Course.the-variants.Refused, Course.the-variants.TakesPlace, Plan.Plan, Standing.Standing}
 use Rattle.answers.specs.SoundAfter.{traded-price}
-use Rattle.answers.specs.Course.{answerWith, courseOf, takesPlace, answerBy, resultBy, Priced, standingBy, Planned}
-use Rattle.answers.specs.Auctions.{preventable, delayable, heldBy, outcomeOf, answerOf, auctionChecks, AuctionLeaves, auctionLeaves, auctionRefused, auctionDone, auctioned, theoreticalChecks, theoreticalRefused, theoreticalDone, theoretical}
+use Rattle.courses.specs.Held.{preventable, delayable}
+use Rattle.courses.specs.Answer.{answerWith, answerOf}
+use Rattle.courses.specs.Course.{courseOf, takesPlace, answerBy, resultBy, Priced, standingBy, Planned}
+use Rattle.answers.specs.Auctions.{heldBy, outcomeOf, auctionChecks, AuctionLeaves, auctionLeaves, auctionRefused, auctionDone, auctioned}
 
 -- the trades of a quantity and the book after them, told by the ranks of the session's book
 abbrev pub tradesBy : Session → Auction → ℕ → List Trade
@@ -267,24 +267,3 @@ module _ (s : Session) (sound : Sound s) (which : ℕ) (list : List ℕ) (course
       → leavesAs s answer result standing now left ≡ auctioned s which list
   leaves-taken takes ranks bids asks buys sells book n closed c (k, rests, l) end e settled =
       rw (a, r, t, n, c) (taken-leaves s sound which list course is takes ranks bids asks buys sells (closed .count) book left k (settled ∙ rw (e, rests)) l)
-
--- the theoretical answer from what its code learns on the way
-module _ (s : Session) (which : ℕ) where
-  abbrev foresights : List Check
-  foresights = theoreticalChecks s which
-
-  pub theoretical-out-of-range : isAuction which ≡ false → theoreticalRefused 1 ≡ theoretical s which
-  unfolding theoretical
-  theoretical-out-of-range h = answered-refused foresights theoreticalRefused _ (hits 1 _ (rw h)) (λ z. omega arith)
-
-  module _ {a : Auction} (good : (isAuction which ≡ true) × (a ≡ auctionFrom which)) {n : ℕ} (hit : n ≡ firstHit (theoreticalLater (s .phase) a)) where
-    theoretical-hit : n ≡ firstHit foresights
-    theoretical-hit = passes 1 _ (rw (good .0)) (rw (good .1) at hit)
-
-    pub theoretical-turned-down : n ≢ 0 → theoreticalRefused n ≡ theoretical s which
-    unfolding theoretical
-    theoretical-turned-down h = answered-refused foresights theoreticalRefused _ theoretical-hit h
-
-    pub theoretical-foreseen : n ≡ 0 → {result : AuctionAnswer} → result ≡ answerOf (outcomeOf s a) (part s a) → record { answer = 0; result = result } ≡ theoretical s which
-    unfolding theoretical
-    theoretical-foreseen z e = rw (e, good .1) (answered-done foresights theoreticalRefused (theoreticalDone s (auctionFrom which)) (sym z ∙ theoretical-hit))

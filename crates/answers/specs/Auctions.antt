@@ -1,35 +1,26 @@
--- The auction and the theoretical answer: what each call returns and leaves, refusals included.
+-- The auction: what the call returns and leaves, refusals included.
 use Prim.Native.Nat.{ℕ}
-use mathlib.Core.Bool.{Bool, true, false, not}
 use mathlib.Core.List.{List, []}
 use lib.ListN.{length}
 use Rattle.terms.specs.Orders.{Resting, auctionFrom}
 use Rattle.terms.specs.declared.kinds.{Price.Price}
-use Rattle.terms.specs.declared.orders.{Auction.Auction, Auction.the-variants.Opening, Auction.the-variants.Closing}
+use Rattle.terms.specs.declared.orders.{Auction.Auction}
 use Rattle.book.specs.Resting.{changed}
 use Rattle.trades.specs.declared.{Trade.Trade}
 use Rattle.auction.specs.declared.{Outcome.Outcome, Outcome.the-variants.Traded, Outcome.the-variants.NoTrade, Outcome.the-variants.NonOpening, Outcome.the-variants.Delayed}
-use Rattle.auction.specs.Outcome.{Held, outcome, trades, outcomeNumber, priceAnswered, quantityAnswered, countAnswered}
+use Rattle.auction.specs.Outcome.{Held, outcome, trades, priceAnswered}
 use Rattle.auction.specs.After.{restOf}
 use Rattle.trades.specs.Written.{tradesWritten}
 use Rattle.session.specs.declared.{Session.Session}
-use Rattle.answers.specs.declared.{AuctionAnswer.AuctionAnswer, Auctioned.Auctioned, Foreseen.Foreseen}
-use Rattle.refusals.specs.Phases.{phaseAfter}
+use Rattle.courses.specs.Held.{preventable, delayable}
+use Rattle.courses.specs.Answer.{noAnswer, answerOf}
+use Rattle.answers.specs.declared.{Auctioned.Auctioned}
+use Rattle.controls.specs.Phases.{phaseAfter}
 use Rattle.session.specs.State.{part, passedOn, delayGiven}
 use Rattle.refusals.specs.Checks.{Check, answered}
-use Rattle.refusals.specs.Rows.{auctionRows, theoreticalRows}
+use Rattle.refusals.specs.Rows.{auctionRows}
 
 -- what may hold the auction back, the outcome at this moment, and its trades
--- 01 "Outcomes", opening: outcome 3, and outcome 4 where "no delay has been given yet"; "Closing: outcome 1 or 2 only. Unlimited orders
--- that stay unfilled don't prevent it"
-abbrev pub preventable : Auction → Bool
-preventable Opening = true
-preventable Closing = false
-
-abbrev pub delayable : Auction → Bool → Bool
-delayable Opening delayed = not delayed
-delayable Closing delayed = false
-
 abbrev pub heldBy : Session → Auction → Held
 heldBy s a = record { preventable = preventable a; delayable = delayable a (s .delayed) }
 
@@ -38,13 +29,6 @@ outcomeOf s a = outcome (heldBy s a) (s .parameters .threshold .0) (s .reference
 
 abbrev pub tradesNow : Session → Auction → List Trade
 tradesNow s a = trades (outcomeOf s a) (part s a)
-
--- the four numbers of the answer
-abbrev pub noAnswer : AuctionAnswer
-noAnswer = record { outcome = 0; price = 0; quantity = 0; count = 0 }
-
-abbrev pub answerOf : Outcome → List Resting → AuctionAnswer
-answerOf o book = record { outcome = outcomeNumber o; price = priceAnswered o; quantity = quantityAnswered o; count = countAnswered o book }
 
 -- outcomes 1 and 2: the trades leave the book, the ended validities too, and the phase goes on
 abbrev pub closedOut : Session → Auction → List Trade → Price → Session
@@ -80,16 +64,3 @@ auctionDone s a list = record {
 
 unfoldable pub auctioned : Session → ℕ → List ℕ → AuctionLeaves
 auctioned s which list = answered (auctionChecks s which (length list)) (auctionRefused s list) (auctionDone s (auctionFrom which) list)
-
--- Theoretical answer: 1, 2, 4. The same four numbers with no change.
-abbrev pub theoreticalChecks : Session → ℕ → List Check
-theoreticalChecks s which = theoreticalRows (s .phase) which
-
-abbrev pub theoreticalRefused : ℕ → Foreseen
-theoreticalRefused n = record { answer = n; result = noAnswer }
-
-abbrev pub theoreticalDone : Session → Auction → Foreseen
-theoreticalDone s a = record { answer = 0; result = answerOf (outcomeOf s a) (part s a) }
-
-unfoldable pub theoretical : Session → ℕ → Foreseen
-theoretical s which = answered (theoreticalChecks s which) theoreticalRefused (theoreticalDone s (auctionFrom which))

@@ -19,9 +19,9 @@ use Rattle.trades.specs.declared.{Trade.Trade}
 use Rattle.auction.specs.declared.{Outcome.Outcome, Outcome.the-variants.Traded, Outcome.the-variants.NoTrade, Outcome.the-variants.NonOpening, Outcome.the-variants.Delayed}
 use Rattle.auction.specs.Outcome.{trades, outcome-traded}
 use Rattle.auction.specs.After.{restOf, rest-keeps}
-use Rattle.refusals.specs.declared.phases.{Phase.the-variants.Fresh}
+use Rattle.controls.specs.declared.phases.{Phase.the-variants.Fresh}
 use Rattle.session.specs.declared.{Session.Session}
-use Rattle.refusals.specs.Phases.{hasStarted, phaseAfter}
+use Rattle.controls.specs.Phases.{hasStarted, phaseAfter}
 use Rattle.refusals.specs.Checks.{answered-cases}
 use Rattle.refusals.specs.Exactly.{clear}
 use Rattle.session.specs.Sound.{legalPrice, legal-in-range, Sound, passed-on-sound, delay-given-sound}

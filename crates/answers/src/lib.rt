@@ -1,47 +1,28 @@
-// The auction and the theoretical answer. The promise of each is one equation: everything that it returns, the session after it and the lent list (A1).
-mod course;
-mod foresight;
-
+// The auction. Its promise is one equation: everything that it returns, the session after it and the lent list (A1).
 use book::settle_left;
 use book::settle_words;
 use book::settle8;
 use book::settle16;
 use book::settle32;
-use course::Course;
-use course::answer_of;
-use course::no_answer;
-use course::planned;
-use course::price_of;
-use course::quantity_of;
-use course::result_of;
-use course::standing_after;
-use foresight::foreseen;
+use courses::AuctionAnswer;
+use courses::Course;
+use courses::answer_of;
+use courses::planned;
+use courses::price_of;
+use courses::quantity_of;
+use courses::result_of;
+use courses::standing_after;
 use places::behind_taken;
 use session::Session;
-use terms::Auction;
-use terms::AuctionMade;
 use terms::Place;
 ghost use mathlib.Core.Path.{_≡_};
 ghost use Rattle.session.specs.Sound.{Sound};
-ghost use Rattle.answers.specs.Auctions.{auctionLeaves, auctioned as Auctions·auctioned, theoretical as Auctions·theoretical};
-
-// The four numbers of an auction and of the theoretical answer.
-pub struct AuctionAnswer {
-    pub outcome: u8,
-    pub price: u32,
-    pub quantity: u64,
-    pub count: u32,
-}
+ghost use Rattle.answers.specs.Auctions.{auctionLeaves, auctioned as Auctions·auctioned};
 
 pub struct Auctioned {
     pub answer: u8,
     pub result: AuctionAnswer,
     pub session: Session,
-}
-
-pub struct Foreseen {
-    pub answer: u8,
-    pub result: AuctionAnswer,
 }
 
 // Auction: refusals 1, 2, 4, 12. The trades go to the list, four numbers each, from its front. The session is changed in place, column by column,
@@ -114,30 +95,5 @@ pub fn auction(mut session: Session, which: u8, list: &mut [u32]) -> Auctioned
         answer,
         result,
         session: after,
-    }
-}
-
-// Theoretical answer: refusals 1, 2, 4. What the auction would answer at this moment.
-pub fn theoretical(session: Session, which: u8) -> Foreseen
-    requires { ⌜ Sound session ⌝ }
-    ensures { λ r. ⌜ r ≡ Auctions·theoretical session which ⌝ }
-{
-    let AuctionMade::Good(auction) = Auction::new(which) else {
-        return Foreseen {
-            answer: 1,
-            result: no_answer(),
-        };
-    };
-    let phase = session.phase;
-    let answer = refusals::theoretical_refusal(phase, auction);
-    if answer != 0 {
-        return Foreseen {
-            answer,
-            result: no_answer(),
-        };
-    }
-    Foreseen {
-        answer: 0,
-        result: foreseen(session, auction),
     }
 }

@@ -19,17 +19,19 @@ use Rattle.terms.specs.declared.quotes.{QuoteEntry.QuoteEntry}
 use Rattle.places.specs.Places.{countTaken}
 use Rattle.book.specs.Resting.{resting, isOf}
 use Rattle.quotes.specs.Quotes.{withoutQuote}
-use Rattle.refusals.specs.Phases.{hasStarted, allowsOrder, allowsAuction}
-use Rattle.refusals.specs.Controls.{offStep, reachesCollar, reachesMost, reachesMostAtReference}
+use Rattle.controls.specs.Phases.{hasStarted, allowsOrder, allowsAuction}
+use Rattle.controls.specs.Controls.{offStep, reachesCollar, reachesMost, reachesMostAtReference}
 use Rattle.refusals.specs.Checks.{Check, firstHit, answered-number, answered-not-done}
 use Rattle.refusals.specs.Exactly.{ruleOf, earlier, NoneHit, wellNumbered, none-hit, given-exactly-when}
 use Rattle.session.specs.declared.{Session.Session}
 use Rattle.entries.specs.declared.{Started.Started, Entered.Entered, Deleted.Deleted, Quoted.Quoted}
-use Rattle.answers.specs.declared.{Foreseen.Foreseen}
+use Rattle.foresight.specs.declared.{Foreseen.Foreseen}
 use Rattle.session.specs.State.{freshSession}
 use Rattle.entries.specs.Entry.{startChecks, startRefused, startDone, started, controlReference, orderChecks, orderRefused, orderDone, entered, deleteChecks, deleteRefused, deleteDone, deleted}
 use Rattle.entries.specs.Quote.{quoteChecks, quoteRefused, quoteDone, quoted}
-use Rattle.answers.specs.Auctions.{AuctionLeaves, noAnswer, auctionChecks, auctionRefused, auctionDone, auctioned, theoreticalChecks, theoreticalRefused, theoreticalDone, theoretical}
+use Rattle.courses.specs.Answer.{noAnswer}
+use Rattle.answers.specs.Auctions.{AuctionLeaves, auctionChecks, auctionRefused, auctionDone, auctioned}
+use Rattle.foresight.specs.Theoretical.{theoreticalChecks, theoreticalRefused, theoreticalDone, theoretical}
 use Rattle.standings.specs.Queues.{QueueLeaves, rankedChecks, queueRefused, queueDone, rankedNumbers, queued, FrontAnswer, frontChecks, frontRefused, frontDone, filledFront}
 
 -- A2. Any two outcomes that a promise allows are equal.

@@ -15,7 +15,8 @@ use Rattle.session.specs.declared.{Session.Session}
 use Rattle.entries.specs.declared.{Started.Started}
 use Rattle.refusals.specs.Checks.{answered-cases}
 use Rattle.entries.specs.Entry.{startChecks, startRefused, startDone, started}
-use Rattle.answers.specs.Auctions.{AuctionLeaves, delayable, outcomeOf, sessionAfter, auctionChecks, auctionRefused, auctionDone, auctioned}
+use Rattle.courses.specs.Held.{delayable}
+use Rattle.answers.specs.Auctions.{AuctionLeaves, outcomeOf, sessionAfter, auctionChecks, auctionRefused, auctionDone, auctioned}
 use Rattle.session.specs.State.{part}
 use Rattle.demands.specs.Sequences.{Act, Call, acted, after, run}
 use Rattle.demands.specs.Outcomes.{decided, others-keep}

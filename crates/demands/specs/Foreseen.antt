@@ -8,7 +8,8 @@ use Rattle.terms.specs.Bounds.{tradeListLength}
 use Rattle.terms.specs.Orders.{auctionFrom}
 use Rattle.session.specs.declared.{Session.Session}
 use Rattle.refusals.specs.Checks.{firstHit, answeredBy}
-use Rattle.answers.specs.Auctions.{auctionChecks, auctionRefused, auctionDone, auctioned, theoreticalChecks, theoreticalRefused, theoreticalDone, theoretical}
+use Rattle.answers.specs.Auctions.{auctionChecks, auctionRefused, auctionDone, auctioned}
+use Rattle.foresight.specs.Theoretical.{theoreticalChecks, theoreticalRefused, theoreticalDone, theoretical}
 
 -- on a list that is long enough the auction's checks are those of the theoretical answer
 same-checks : (s : Session) (which : ℕ) (list : List ℕ) → tradeListLength ≤ length list → firstHit (auctionChecks s which (length list)) ≡ firstHit (theoreticalChecks s which)

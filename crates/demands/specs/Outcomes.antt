@@ -21,17 +21,18 @@ use Rattle.price.specs.Chain.{auctionPrice}
 use Rattle.auction.specs.declared.{Outcome.Outcome, Outcome.the-variants.Traded, Outcome.the-variants.NoTrade, Outcome.the-variants.NonOpening, Outcome.the-variants.Delayed}
 use Rattle.auction.specs.Outcome.{outcome, prevented, delays, priced, trades, priceAnswered}
 use Rattle.trades.specs.Written.{tradesWritten}
-use Rattle.refusals.specs.declared.phases.{Phase.the-variants.PreOpening}
+use Rattle.controls.specs.declared.phases.{Phase.the-variants.PreOpening}
 use Rattle.session.specs.declared.{Session.Session}
-use Rattle.answers.specs.declared.{AuctionAnswer.AuctionAnswer}
+use Rattle.courses.specs.declared.{AuctionAnswer.AuctionAnswer}
 use Rattle.entries.specs.declared.{Started.Started, Entered.Entered, Deleted.Deleted, Quoted.Quoted}
 use Rattle.session.specs.State.{delayGiven}
-use Rattle.refusals.specs.Phases.{hasStarted, phaseAfter}
+use Rattle.controls.specs.Phases.{hasStarted, phaseAfter}
 use Rattle.refusals.specs.Checks.{firstHit, answered-cases, answered-done}
 use Rattle.refusals.specs.Exactly.{clear}
 use Rattle.entries.specs.Entry.{startChecks, startRefused, startDone, started, orderChecks, orderRefused, orderDone, entered, deleteChecks, deleteRefused, deleteDone, deleted}
 use Rattle.entries.specs.Quote.{quoteChecks, quoteRefused, quoteDone, quoted}
-use Rattle.answers.specs.Auctions.{AuctionLeaves, heldBy, outcomeOf, answerOf, sessionAfter, auctionLeaves, auctionChecks, auctionRefused, auctionDone, auctioned}
+use Rattle.courses.specs.Answer.{answerOf}
+use Rattle.answers.specs.Auctions.{AuctionLeaves, heldBy, outcomeOf, sessionAfter, auctionLeaves, auctionChecks, auctionRefused, auctionDone, auctioned}
 use Rattle.session.specs.State.{part}
 use Rattle.demands.specs.Answers.{auction-answer}
 

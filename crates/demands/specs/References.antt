@@ -15,7 +15,7 @@ use Rattle.terms.specs.declared.quotes.{QuoteEntry.QuoteEntry}
 use Rattle.trades.specs.Written.{tradesWritten}
 use Rattle.auction.specs.declared.{Outcome.Outcome, Outcome.the-variants.Traded, Outcome.the-variants.NoTrade, Outcome.the-variants.NonOpening, Outcome.the-variants.Delayed}
 use Rattle.auction.specs.Outcome.{trades, priceAnswered}
-use Rattle.refusals.specs.Phases.{hasStarted, phaseAfter}
+use Rattle.controls.specs.Phases.{hasStarted, phaseAfter}
 use Rattle.refusals.specs.Checks.{firstHit, answeredBy, answered-cases}
 use Rattle.refusals.specs.Exactly.{clear}
 use Rattle.session.specs.declared.{Session.Session}
@@ -23,7 +23,9 @@ use Rattle.session.specs.State.{freshSession, part}
 use Rattle.entries.specs.declared.{Started.Started, Entered.Entered, Quoted.Quoted}
 use Rattle.entries.specs.Entry.{controlReference, startChecks, startRefused, startDone, started, orderChecks, orderRefused, orderDone, entered}
 use Rattle.entries.specs.Quote.{quoteChecks, quoteRefused, quoteDone, quoted}
-use Rattle.answers.specs.Auctions.{AuctionLeaves, outcomeOf, answerOf, sessionAfter, auctionLeaves, auctionChecks, auctionRefused, auctionDone, auctioned, theoretical}
+use Rattle.courses.specs.Answer.{answerOf}
+use Rattle.answers.specs.Auctions.{AuctionLeaves, outcomeOf, sessionAfter, auctionLeaves, auctionChecks, auctionRefused, auctionDone, auctioned}
+use Rattle.foresight.specs.Theoretical.{theoretical}
 use Rattle.demands.specs.Answers.{start-answer}
 use Rattle.demands.specs.Sequences.{Act, Call, acted, run}
 use Rattle.demands.specs.Outcomes.{others-keep}

@@ -17,7 +17,7 @@ use Rattle.places.specs.Places.{wordPlaces, lowestFree, countTaken, isFull, wit
 use Rattle.places.specs.Words.{lowest-free-room, full-none-free}
 use Rattle.book.specs.declared.Values.{Values}
 use Rattle.book.specs.Columns.{valuesOf, emptyValues}
-use Rattle.refusals.specs.declared.phases.{Phase.Phase}
+use Rattle.controls.specs.declared.phases.{Phase.Phase}
 use Rattle.refusals.specs.Checks.{Check, firstHit, answered, answered-refused, answered-done, answered-cases, hits, passes}
 use Rattle.refusals.specs.Rows.{orderRows, orderLater, deleteRows, deleteLater}
 use Rattle.refusals.specs.Exactly.{clear}

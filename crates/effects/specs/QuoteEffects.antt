@@ -21,7 +21,7 @@ use Rattle.places.specs.Counts.{no-second-free}
 use Rattle.book.specs.declared.{Values.Values}
 use Rattle.quotes.specs.declared.{Pair.Pair}
 use Rattle.book.specs.Columns.{valuesOf}
-use Rattle.refusals.specs.declared.phases.{Phase.Phase}
+use Rattle.controls.specs.declared.phases.{Phase.Phase}
 use Rattle.refusals.specs.Checks.{Check, firstHit, answered, answered-refused, answered-done, answered-cases, hits, passes}
 use Rattle.refusals.specs.Rows.{quoteRows, quoteLater}
 use Rattle.refusals.specs.Exactly.{clear}

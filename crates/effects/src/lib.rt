@@ -3,6 +3,7 @@
 mod quoting;
 
 use book::Values;
+use controls::Phase;
 use places::WORD_PLACES;
 use places::WORDS;
 use places::with_bit;
@@ -10,7 +11,6 @@ use places::without_bit;
 pub use quoting::QuoteChange;
 pub use quoting::QuoteEffect;
 pub use quoting::quote_effect;
-use refusals::Phase;
 use terms::Entry;
 use terms::Member;
 use terms::MemberMade;

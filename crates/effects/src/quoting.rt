@@ -1,11 +1,11 @@
 // What a quote changes (02 K2).
 use book::Values;
+use controls::Phase;
 use places::WORDS;
 use places::lowest_free;
 use places::mark;
 use places::unmark;
 use quotes::Pair;
-use refusals::Phase;
 use refusals::QUOTE_NUMBERS;
 use terms::Parameters;
 use terms::Place;

@@ -20,8 +20,8 @@ use Rattle.book.specs.Writing.{stored-order, stored-elsewhere}
 use Rattle.quotes.specs.Quotes.{isQuoteOf}
 use Rattle.book.specs.Sound.{SoundOrder, SoundBook, SameQuote, NoQuoteAs, same-or-not, stored-sound}
 use Rattle.quotes.specs.Without.{without-sound, none-quoted}
-use Rattle.refusals.specs.Phases.{hasStarted}
-use Rattle.refusals.specs.Controls.{offStep}
+use Rattle.controls.specs.Phases.{hasStarted}
+use Rattle.controls.specs.Controls.{offStep}
 use Rattle.refusals.specs.Checks.{firstHit, answered-cases}
 use Rattle.refusals.specs.Exactly.{clear}
 use Rattle.session.specs.declared.{Session.Session}

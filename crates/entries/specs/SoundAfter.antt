@@ -19,10 +19,10 @@ use Rattle.places.specs.Words.{lowest-free-room}
 use Rattle.book.specs.Resting.{resting, placeOf, isOf}
 use Rattle.book.specs.ByPlace.{any-resting}
 use Rattle.book.specs.Sound.{SoundOrder, stored-sound, cleared-sound}
-use Rattle.refusals.specs.Phases.{hasStarted}
+use Rattle.controls.specs.Phases.{hasStarted}
 use Rattle.refusals.specs.Checks.{firstHit, answered-cases}
 use Rattle.refusals.specs.Exactly.{clear}
-use Rattle.refusals.specs.Controls.{offStep}
+use Rattle.controls.specs.Controls.{offStep}
 use Rattle.session.specs.declared.{Session.Session}
 use Rattle.entries.specs.declared.{Started.Started, Entered.Entered, Deleted.Deleted}
 use Rattle.entries.specs.Entry.{started, startChecks, startRefused, startDone, entered, orderChecks, orderRefused, orderDone, orderEntered, deleted, deleteChecks, deleteRefused, deleteDone}

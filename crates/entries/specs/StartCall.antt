@@ -5,7 +5,7 @@ use mathlib.Core.List.{List}
 use native.Mathlib.Omega.{arith}
 use Rattle.terms.specs.Parameters.{isStart, parametersFrom}
 use Rattle.terms.specs.declared.parameters.{Start.Start, Parameters.Parameters}
-use Rattle.refusals.specs.Phases.{hasStarted}
+use Rattle.controls.specs.Phases.{hasStarted}
 use Rattle.refusals.specs.Checks.{Check, answered-refused, answered-done, hits, passes, passes-last}
 use Rattle.session.specs.declared.{Session.Session}
 use Rattle.session.specs.State.{begun}

@@ -4,6 +4,7 @@ mod changes;
 
 use changes::changed;
 use changes::requoted;
+use controls::Phase;
 use effects::Effect;
 use effects::QuoteChange;
 use effects::QuoteEffect;
@@ -11,7 +12,6 @@ use effects::delete_effect;
 use effects::order_effect;
 use effects::quote_effect;
 use quotes::Pair;
-use refusals::Phase;
 use session::Session;
 use terms::Entry;
 use terms::Parameters;
@@ -59,7 +59,7 @@ pub fn start(session: Session, start: Start) -> Started
         return Started { answer: 1, session };
     };
     let phase = session.phase;
-    if refusals::has_started(phase) {
+    if controls::has_started(phase) {
         return Started { answer: 3, session };
     }
     let book = session.book;

@@ -1,8 +1,6 @@
--- Refusals: 01 "Phases" and "Refusals by number".
+-- Refusals: 01 "Refusals by number".
 
 -- the paper
-pub mod Phases
-pub mod Controls
 pub mod Checks
 pub mod Rows
 -- its laws

@@ -13,9 +13,9 @@ use Rattle.terms.specs.declared.kinds.{Price.Price}
 use Rattle.terms.specs.declared.orders.{Entry.Entry, Order.Order, Auction.Auction, Validity.Validity, Side.the-variants.Buy, Side.the-variants.Sell}
 use Rattle.terms.specs.declared.quotes.{QuoteEntry.QuoteEntry, Quote.Quote}
 use Rattle.terms.specs.declared.parameters.{Start.Start, Parameters.Parameters}
-use Rattle.refusals.specs.declared.phases.{Phase.Phase}
-use Rattle.refusals.specs.Phases.{hasStarted, allowsOrder, allowsAuction}
-use Rattle.refusals.specs.Controls.{offStep, reachesCollar, reachesMost, reachesMostAtReference}
+use Rattle.controls.specs.declared.phases.{Phase.Phase}
+use Rattle.controls.specs.Phases.{hasStarted, allowsOrder, allowsAuction}
+use Rattle.controls.specs.Controls.{offStep, reachesCollar, reachesMost, reachesMostAtReference}
 use Rattle.refusals.specs.Checks.{check, Check}
 
 -- Start: 1, 3.

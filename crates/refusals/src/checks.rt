@@ -1,12 +1,12 @@
 // The checks of the calls behind the first, which is the constructors': 01 "Refusals by number", each call's in its order. 0 means none.
-use crate::controls::off_step;
-use crate::controls::reaches_collar;
-use crate::controls::reaches_most;
-use crate::controls::reaches_most_at_reference;
-use crate::phases::Phase;
-use crate::phases::allows_auction;
-use crate::phases::allows_order;
-use crate::phases::has_started;
+use controls::Phase;
+use controls::allows_auction;
+use controls::allows_order;
+use controls::has_started;
+use controls::off_step;
+use controls::reaches_collar;
+use controls::reaches_most;
+use controls::reaches_most_at_reference;
 use terms::Auction;
 use terms::Number;
 use terms::Order;

@@ -1,11 +1,11 @@
 // The checks of a quote behind the first (02 K2): those of a day order, each on the bid and then on the ask.
-use crate::controls::off_step;
-use crate::controls::reaches_collar;
-use crate::controls::reaches_most;
-use crate::controls::reaches_most_at_reference;
-use crate::phases::Phase;
-use crate::phases::allows_order;
-use crate::phases::has_started;
+use controls::Phase;
+use controls::allows_order;
+use controls::has_started;
+use controls::off_step;
+use controls::reaches_collar;
+use controls::reaches_most;
+use controls::reaches_most_at_reference;
 use terms::CollarFactor;
 use terms::Limit;
 use terms::Number;
@@ -19,7 +19,7 @@ ghost use mathlib.Core.Path.{_≡_};
 ghost use Rattle.terms.specs.Quotes.{isCrossed};
 ghost use Rattle.refusals.specs.Checks.{firstHit};
 ghost use Rattle.refusals.specs.Rows.{eitherSide, quoteLater};
-ghost use Rattle.refusals.specs.Controls.{offStep, reachesCollar, reachesMost, reachesMostAtReference};
+ghost use Rattle.controls.specs.Controls.{offStep, reachesCollar, reachesMost, reachesMostAtReference};
 
 // Numbers that an accepted quote takes.
 pub const QUOTE_NUMBERS: u32 = 2;

@@ -13,8 +13,8 @@ use Rattle.terms.specs.declared.parameters.{Parameters.Parameters}
 use Rattle.book.specs.declared.Book.{Book}
 use Rattle.book.specs.Sound.{SoundBook, empty-sound}
 use Rattle.queue.specs.RankNumbers.{numberRoom}
-use Rattle.refusals.specs.declared.phases.{Phase.Phase, Phase.the-variants.Fresh, Phase.the-variants.PreOpening, Phase.the-variants.Day, Phase.the-variants.Closed}
-use Rattle.refusals.specs.Phases.{hasStarted}
+use Rattle.controls.specs.declared.phases.{Phase.Phase, Phase.the-variants.Fresh, Phase.the-variants.PreOpening, Phase.the-variants.Day, Phase.the-variants.Closed}
+use Rattle.controls.specs.Phases.{hasStarted}
 use Rattle.session.specs.declared.{Session.Session}
 use Rattle.session.specs.State.{freshSession, begun, withBook, passedOn, delayGiven}
 

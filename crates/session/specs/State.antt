@@ -11,7 +11,7 @@ use Rattle.book.specs.declared.Book.{Book}
 use Rattle.book.specs.Columns.{emptyBook}
 use Rattle.book.specs.Resting.{resting}
 use Rattle.queue.specs.Part.{takingPart}
-use Rattle.refusals.specs.declared.phases.{Phase.Phase, Phase.the-variants.Fresh, Phase.the-variants.PreOpening}
+use Rattle.controls.specs.declared.phases.{Phase.Phase, Phase.the-variants.Fresh, Phase.the-variants.PreOpening}
 use Rattle.session.specs.declared.{Session.Session}
 
 -- a session that has not started: the least parameters, no number given, the book empty

@@ -1,6 +1,6 @@
 // A session for one security: what it holds, and the fresh one. It goes into a call by value and comes back by value.
 use book::Book;
-use refusals::Phase;
+use controls::Phase;
 use terms::Parameters;
 use terms::Place;
 use terms::Price;

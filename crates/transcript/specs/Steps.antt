@@ -31,7 +31,7 @@ use Rattle.transcript.specs.declared.{Stepped.Stepped, Doing.Doing}
 use Rattle.transcript.specs.Transcript.{Step, step, stepLines, lent, orderStep, deleteStep, quoteStep}
 use Rattle.terms.specs.declared.kinds.{Price.Price}
 use Rattle.terms.specs.declared.parameters.{Parameters.Parameters}
-use Rattle.refusals.specs.declared.phases.{Phase.Phase}
+use Rattle.controls.specs.declared.phases.{Phase.Phase}
 use Rattle.effects.specs.declared.{Change.Change, Effect.Effect}
 use Rattle.effects.specs.Effects.{orderEffect, deleteEffect, order-place, order-plain, delete-place, delete-plain}
 use Rattle.effects.specs.declared.quoting.{QuoteChange.QuoteChange, QuoteEffect.QuoteEffect}

@@ -8,7 +8,8 @@ use Rattle.terms.specs.Orders.{auctionFrom}
 use Rattle.trades.specs.declared.{Trade.Trade}
 use Rattle.session.specs.declared.{Session.Session}
 use Rattle.entries.specs.declared.{Started.Started, Entered.Entered, Deleted.Deleted, Quoted.Quoted}
-use Rattle.answers.specs.declared.{AuctionAnswer.AuctionAnswer, Auctioned.Auctioned}
+use Rattle.courses.specs.declared.{AuctionAnswer.AuctionAnswer}
+use Rattle.answers.specs.declared.{Auctioned.Auctioned}
 use Rattle.session.specs.State.{freshSession}
 use Rattle.entries.specs.Entry.{started, entered, deleted}
 use Rattle.entries.specs.Quote.{quoted}

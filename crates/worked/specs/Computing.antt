@@ -16,7 +16,8 @@ use Rattle.auction.specs.After.{restOf}
 use Rattle.refusals.specs.Checks.{firstHit}
 use Rattle.entries.specs.Entry.{started, entered, deleted}
 use Rattle.entries.specs.Quote.{quoted}
-use Rattle.answers.specs.Auctions.{outcomeOf, auctioned, theoretical}
+use Rattle.answers.specs.Auctions.{outcomeOf, auctioned}
+use Rattle.foresight.specs.Theoretical.{theoretical}
 use Rattle.standings.specs.Queues.{queued, filledFront}
 
 unfoldable pub computing : Unit {0}

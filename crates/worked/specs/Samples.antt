@@ -5,7 +5,7 @@ use lib.ListN.{replicate}
 use Rattle.terms.specs.Bounds.{tradeListLength}
 use Rattle.terms.specs.declared.orders.{Entry.Entry}
 use Rattle.session.specs.declared.{Session.Session}
-use Rattle.answers.specs.declared.{AuctionAnswer.AuctionAnswer}
+use Rattle.courses.specs.declared.{AuctionAnswer.AuctionAnswer}
 use Rattle.session.specs.State.{freshSession}
 use Rattle.entries.specs.Entry.{started, entered}
 use Rattle.answers.specs.Auctions.{auctioned}

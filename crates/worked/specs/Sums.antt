@@ -6,7 +6,8 @@ use Rattle.book.specs.Resting.{resting}
 use Rattle.session.specs.declared.{Session.Session}
 use Rattle.session.specs.State.{freshSession}
 use Rattle.entries.specs.Entry.{entered, deleted}
-use Rattle.answers.specs.Auctions.{auctioned, theoretical}
+use Rattle.answers.specs.Auctions.{auctioned}
+use Rattle.foresight.specs.Theoretical.{theoretical}
 use Rattle.standings.specs.Queues.{queued}
 use Rattle.worked.specs.Computing.{computing}
 use Rattle.worked.specs.Samples.{startedAt, entry, buy, sell, enter, auctionAnswered, after, openingOf, numbers}

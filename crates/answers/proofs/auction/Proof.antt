@@ -12,9 +12,9 @@ use Rattle.book.specs.Settling.{settled-as}
 use Rattle.auction.specs.Trading.{asks-part}
 use denote.Enum.Declared.{tagOf}
 use types.Run.{OneOf}
-use Rattle.answers.proofs.course.Course.{the-type}
-use Rattle.answers.specs.declared.course.{Course.Course, Course.the-variants.Refused, Course.the-variants.HeldBack, Course.the-variants.TakesPlace}
-use Rattle.answers.specs.Course.{takesPlace}
+use Rattle.courses.proofs.Course.{the-type}
+use Rattle.courses.specs.declared.{Course.Course, Course.the-variants.Refused, Course.the-variants.HeldBack, Course.the-variants.TakesPlace}
+use Rattle.courses.specs.Course.{takesPlace}
 use Rattle.answers.specs.AuctionCalls.{courseNow, course-planned, course-priced, taken-few, leaves-kept, leaves-taken}
 use borrow.Author.Needs.{needs}
 use Rattle.answers.proofs.auction.Statement.{statement}
