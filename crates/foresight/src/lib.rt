@@ -1,4 +1,5 @@
-// The theoretical answer: what the auction would answer at this moment, with no change (01 "Outcomes").
+// The theoretical answer: what the auction would answer at this moment, with no change (01 "Outcomes"). Its promise is one equation: everything that it
+// returns (A1).
 use auction::Outcome;
 use courses::AuctionAnswer;
 use courses::answer_with;
