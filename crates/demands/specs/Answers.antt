@@ -15,7 +15,7 @@ use Rattle.terms.specs.Parameters.{isStart}
 use Rattle.terms.specs.Quotes.{isQuote, quoteFrom, quoteOrder, isCrossed}
 use Rattle.terms.specs.declared.orders.{Entry.Entry, Validity.Validity, Side.the-variants.Buy, Side.the-variants.Sell}
 use Rattle.terms.specs.declared.parameters.{Start.Start}
-use Rattle.terms.specs.declared.quotes.{QuoteEntry.QuoteEntry}
+use Rattle.terms.specs.declared.quote_terms.{QuoteEntry.QuoteEntry}
 use Rattle.places.specs.Places.{countTaken}
 use Rattle.book.specs.Resting.{resting, isOf}
 use Rattle.quotes.specs.Quotes.{withoutQuote}

@@ -11,7 +11,7 @@ use Rattle.terms.specs.Bounds.{places}
 use Rattle.terms.specs.Kinds.{isQuantity, isPrice}
 use Rattle.terms.specs.Orders.{Resting, limitNumber}
 use Rattle.terms.specs.declared.orders.{Side.Side, Side.the-variants.Buy, Side.the-variants.Sell, Validity.Validity}
-use Rattle.terms.specs.declared.quotes.{SideEntry.SideEntry, QuoteEntry.QuoteEntry}
+use Rattle.terms.specs.declared.quote_terms.{SideEntry.SideEntry, QuoteEntry.QuoteEntry}
 use Rattle.places.specs.Places.{isTaken}
 use Rattle.places.specs.Words.{lowest-free-clear, lowest-free-least}
 use Rattle.book.specs.Columns.{orderFrom, orderAt}

@@ -11,7 +11,7 @@ use Rattle.terms.specs.Parameters.{parametersFrom}
 use Rattle.terms.specs.declared.kinds.{Price.Price}
 use Rattle.terms.specs.declared.orders.{Entry.Entry, Auction.Auction, Auction.the-variants.Opening, Auction.the-variants.Closing}
 use Rattle.terms.specs.declared.parameters.{Start.Start, Parameters.Parameters}
-use Rattle.terms.specs.declared.quotes.{QuoteEntry.QuoteEntry}
+use Rattle.terms.specs.declared.quote_terms.{QuoteEntry.QuoteEntry}
 use Rattle.trades.specs.Written.{tradesWritten}
 use Rattle.auction.specs.declared.{Outcome.Outcome, Outcome.the-variants.Traded, Outcome.the-variants.NoTrade, Outcome.the-variants.NonOpening, Outcome.the-variants.Delayed}
 use Rattle.auction.specs.Outcome.{trades, priceAnswered}

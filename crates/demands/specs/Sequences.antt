@@ -15,7 +15,7 @@ use Rattle.terms.specs.Bounds.{places}
 use Rattle.terms.specs.Orders.{Resting, auctionFrom}
 use Rattle.terms.specs.declared.orders.{Auction.Auction, Entry.Entry}
 use Rattle.terms.specs.declared.parameters.{Start.Start}
-use Rattle.terms.specs.declared.quotes.{QuoteEntry.QuoteEntry}
+use Rattle.terms.specs.declared.quote_terms.{QuoteEntry.QuoteEntry}
 use Rattle.places.specs.Places.{isTaken}
 use Rattle.book.specs.declared.{Book.Book}
 use Rattle.book.specs.Columns.{orderAt}

@@ -11,7 +11,7 @@ use lib.Seq.{take-at, drop-at}
 use Rattle.lists.specs.Put.{put}
 use Rattle.terms.specs.declared.orders.{Entry.Entry}
 use Rattle.terms.specs.declared.parameters.{Start.Start}
-use Rattle.terms.specs.declared.quotes.{QuoteEntry.QuoteEntry}
+use Rattle.terms.specs.declared.quote_terms.{QuoteEntry.QuoteEntry}
 use Rattle.refusals.specs.Checks.{answered-number, answered-not-done}
 use Rattle.refusals.specs.Exactly.{ruleOf}
 use Rattle.session.specs.declared.{Session.Session}

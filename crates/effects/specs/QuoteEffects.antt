@@ -14,7 +14,7 @@ use Rattle.terms.specs.Quotes.{isQuote, quoteFrom, quoteOrder}
 use Rattle.terms.specs.declared.kinds.{Price.Price}
 use Rattle.terms.specs.declared.orders.{Side.the-variants.Buy, Side.the-variants.Sell}
 use Rattle.terms.specs.declared.parameters.{Parameters.Parameters}
-use Rattle.terms.specs.declared.quotes.{QuoteEntry.QuoteEntry, Quote.Quote}
+use Rattle.terms.specs.declared.quote_terms.{QuoteEntry.QuoteEntry, Quote.Quote}
 use Rattle.places.specs.Places.{lowestFree, countTaken, isShort, markedAt, unmarkedAt}
 use Rattle.places.specs.Words.{lowest-free-room}
 use Rattle.places.specs.Counts.{no-second-free}

@@ -5,7 +5,7 @@ use mathlib.Core.List.{List}
 use Rattle.terms.specs.Orders.{Resting, restingAs}
 use Rattle.terms.specs.Quotes.{quoteFrom, quoteOrder}
 use Rattle.terms.specs.declared.orders.{Side.the-variants.Buy, Side.the-variants.Sell}
-use Rattle.terms.specs.declared.quotes.{QuoteEntry.QuoteEntry}
+use Rattle.terms.specs.declared.quote_terms.{QuoteEntry.QuoteEntry}
 use Rattle.places.specs.Places.{lowestFree, isShort}
 use Rattle.book.specs.declared.{Book.Book}
 use Rattle.book.specs.Columns.{stored}

@@ -9,7 +9,7 @@ use Rattle.terms.specs.Bounds.{places}
 use Rattle.terms.specs.Orders.{sideNumber}
 use Rattle.terms.specs.Quotes.{quoteFrom}
 use Rattle.terms.specs.declared.orders.{Side.the-variants.Buy, Side.the-variants.Sell}
-use Rattle.terms.specs.declared.quotes.{QuoteEntry.QuoteEntry}
+use Rattle.terms.specs.declared.quote_terms.{QuoteEntry.QuoteEntry}
 use Rattle.places.specs.Places.{lowestFree, isShort, markedAt}
 use Rattle.book.specs.declared.{Book.Book}
 use Rattle.quotes.specs.declared.{Pair.Pair}

@@ -12,7 +12,7 @@ use Rattle.terms.specs.Kinds.{isMember, isQuantity, isPrice}
 use Rattle.terms.specs.Orders.{Resting, isLimit, isLegal, restingAs}
 use Rattle.terms.specs.Quotes.{isQuoteSide, isQuote, quoteFrom, quoteOrder}
 use Rattle.terms.specs.declared.orders.{Side.Side, Side.the-variants.Buy, Side.the-variants.Sell, Limit.Limit, Limit.the-variants.At}
-use Rattle.terms.specs.declared.quotes.{SideEntry.SideEntry, QuoteEntry.QuoteEntry}
+use Rattle.terms.specs.declared.quote_terms.{SideEntry.SideEntry, QuoteEntry.QuoteEntry}
 use Rattle.places.specs.Places.{isTaken, isShort}
 use Rattle.book.specs.declared.{Book.Book, Values.Values}
 use Rattle.book.specs.Columns.{orderFrom, orderAt, stored}

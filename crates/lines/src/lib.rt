@@ -2,17 +2,17 @@
 ghost use mathlib.Core.Path.{_≡_};
 ghost use Rattle.lines.specs.Line.{numberedLine};
 
+mod line_writer;
 mod text;
 mod words;
-mod writer;
 
+pub use line_writer::done_line;
+pub use line_writer::end_line;
+pub use line_writer::fault_line;
+pub use line_writer::line_of;
+pub use line_writer::quote_line;
+pub use line_writer::trade_lines;
 pub use words::Word;
-pub use writer::done_line;
-pub use writer::end_line;
-pub use writer::fault_line;
-pub use writer::line_of;
-pub use writer::quote_line;
-pub use writer::trade_lines;
 
 // At most: the digits of a number of 64 bits, and the letters of a word.
 const DIGITS: usize = 20;

@@ -11,7 +11,7 @@ use Rattle.terms.specs.Parameters.{isStart}
 use Rattle.terms.specs.Quotes.{isQuote}
 use Rattle.terms.specs.declared.orders.{Entry.Entry}
 use Rattle.terms.specs.declared.parameters.{Start.Start}
-use Rattle.terms.specs.declared.quotes.{QuoteEntry.QuoteEntry}
+use Rattle.terms.specs.declared.quote_terms.{QuoteEntry.QuoteEntry}
 use Rattle.records.specs.declared.{kinds.Deletion.Deletion, kinds.Record.Record}
 
 -- the number that n bytes from a place on hold, the least byte first

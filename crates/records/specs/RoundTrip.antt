@@ -13,7 +13,7 @@ use Rattle.lists.specs.Tests.{tests, decided, and-both}
 use Rattle.terms.specs.Kinds.{within, isStep, isPrice, isReference, isFactor, isThreshold, isMember, isQuantity, isNumber}
 use Rattle.terms.specs.Orders.{isSide, isValidity, isLimit, limitFrom}
 use Rattle.terms.specs.Quotes.{isQuoteSide}
-use Rattle.terms.specs.declared.quotes.{SideEntry.SideEntry}
+use Rattle.terms.specs.declared.quote_terms.{SideEntry.SideEntry}
 use Rattle.records.specs.declared.{kinds.Record.Record}
 use Rattle.records.specs.Fields.{headerLength, widths, layoutLength, kindLength, fieldsOf, asStart, asEntry, asDeletion, asAuction, asQuote, recordOf, inRange}
 use Rattle.records.specs.Bytes.{kindOf, numbersOf, lengthOf, headerWidths, headerBytes, fieldBytes, recordBytes, fileOf, allInRange}

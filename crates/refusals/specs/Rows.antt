@@ -11,7 +11,7 @@ use Rattle.terms.specs.Parameters.{isStart}
 use Rattle.terms.specs.Quotes.{isQuote, quoteFrom, quoteOrder, isCrossed}
 use Rattle.terms.specs.declared.kinds.{Price.Price}
 use Rattle.terms.specs.declared.orders.{Entry.Entry, Order.Order, Auction.Auction, Validity.Validity, Side.the-variants.Buy, Side.the-variants.Sell}
-use Rattle.terms.specs.declared.quotes.{QuoteEntry.QuoteEntry, Quote.Quote}
+use Rattle.terms.specs.declared.quote_terms.{QuoteEntry.QuoteEntry, Quote.Quote}
 use Rattle.terms.specs.declared.parameters.{Start.Start, Parameters.Parameters}
 use Rattle.controls.specs.declared.phases.{Phase.Phase}
 use Rattle.controls.specs.Phases.{hasStarted, allowsOrder, allowsAuction}

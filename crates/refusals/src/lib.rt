@@ -1,11 +1,11 @@
 // Refusals: which number a call answers (01 "Refusals by number").
 mod checks;
-mod quotes;
+mod quote_checks;
 
 pub use checks::auction_refusal;
 pub use checks::delete_refusal;
 pub use checks::order_refusal;
 pub use checks::ranked_refusal;
 pub use checks::theoretical_refusal;
-pub use quotes::QUOTE_NUMBERS;
-pub use quotes::quote_refusal;
+pub use quote_checks::QUOTE_NUMBERS;
+pub use quote_checks::quote_refusal;

@@ -9,7 +9,7 @@ use Rattle.terms.specs.declared.orders.Side.the-variants.{Buy, Sell}
 use Rattle.terms.specs.declared.orders.Validity.the-variants.{Day}
 use Rattle.terms.specs.declared.orders.Limit.the-variants.{At}
 use Rattle.terms.specs.declared.orders.{Order.Order}
-use Rattle.terms.specs.declared.quotes.{SideEntry.SideEntry, QuoteEntry.QuoteEntry, QuoteSide.QuoteSide, QuoteSideMade.QuoteSideMade, Quote.Quote, QuoteMade.QuoteMade}
+use Rattle.terms.specs.declared.quote_terms.{SideEntry.SideEntry, QuoteEntry.QuoteEntry, QuoteSide.QuoteSide, QuoteSideMade.QuoteSideMade, Quote.Quote, QuoteMade.QuoteMade}
 
 -- a side: a quantity, and a limit that is a price; 0 is none
 abbrev pub isQuoteSide : SideEntry → Bool

@@ -4,3 +4,4 @@ pub mod Samples
 pub mod Table
 pub mod Sums
 pub mod Quotes
+pub mod Yesterday
