@@ -5,18 +5,19 @@ pub use answers::Auctioned;
 pub use answers::auction;
 // The four numbers of an auction and of the theoretical answer.
 pub use courses::AuctionAnswer;
-// Start: refusals 1, 3. Order: 1, 2, 4, 5, 6, 7, 8, 9, 10. Quote: 1, 13, 2, 4, 5, 6, 7, 8, 9, 10. Delete: 1, 2, 11.
+// Start: refusals 1, 3. Order: 1, 2, 4, 5, 6, 7, 8, 9, 10. Delete: 1, 2, 11.
 pub use entries::Deleted;
 pub use entries::Entered;
-pub use entries::Quoted;
 pub use entries::Started;
 pub use entries::delete;
 pub use entries::order;
-pub use entries::quote;
 pub use entries::start;
 // Theoretical answer: refusals 1, 2, 4.
 pub use foresight::Foreseen;
 pub use foresight::theoretical;
+// Quote: refusals 1, 13, 2, 4, 5, 6, 7, 8, 9, 10.
+pub use quotation::Quoted;
+pub use quotation::quote;
 // A session, and the fresh one.
 pub use session::Session;
 // Ranked queue: refusals 1, 2, 12. Filled front: 1.

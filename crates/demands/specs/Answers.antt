@@ -24,11 +24,12 @@ use Rattle.controls.specs.Controls.{offStep, reachesCollar, reachesMost, reache
 use Rattle.refusals.specs.Checks.{Check, firstHit, answered-number, answered-not-done}
 use Rattle.refusals.specs.Exactly.{ruleOf, earlier, NoneHit, wellNumbered, none-hit, given-exactly-when}
 use Rattle.session.specs.declared.{Session.Session}
-use Rattle.entries.specs.declared.{Started.Started, Entered.Entered, Deleted.Deleted, Quoted.Quoted}
+use Rattle.entries.specs.declared.{Started.Started, Entered.Entered, Deleted.Deleted}
+use Rattle.quotation.specs.declared.{Quoted.Quoted}
 use Rattle.foresight.specs.declared.{Foreseen.Foreseen}
 use Rattle.session.specs.State.{freshSession}
 use Rattle.entries.specs.Entry.{startChecks, startRefused, startDone, started, controlReference, orderChecks, orderRefused, orderDone, entered, deleteChecks, deleteRefused, deleteDone, deleted}
-use Rattle.entries.specs.Quote.{quoteChecks, quoteRefused, quoteDone, quoted}
+use Rattle.quotation.specs.Quote.{quoteChecks, quoteRefused, quoteDone, quoted}
 use Rattle.courses.specs.Answer.{noAnswer}
 use Rattle.answers.specs.Auctions.{AuctionLeaves, auctionChecks, auctionRefused, auctionDone, auctioned}
 use Rattle.foresight.specs.Theoretical.{theoreticalChecks, theoreticalRefused, theoreticalDone, theoretical}

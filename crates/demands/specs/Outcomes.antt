@@ -24,13 +24,14 @@ use Rattle.trades.specs.Written.{tradesWritten}
 use Rattle.controls.specs.declared.phases.{Phase.the-variants.PreOpening}
 use Rattle.session.specs.declared.{Session.Session}
 use Rattle.courses.specs.declared.{AuctionAnswer.AuctionAnswer}
-use Rattle.entries.specs.declared.{Started.Started, Entered.Entered, Deleted.Deleted, Quoted.Quoted}
+use Rattle.entries.specs.declared.{Started.Started, Entered.Entered, Deleted.Deleted}
+use Rattle.quotation.specs.declared.{Quoted.Quoted}
 use Rattle.session.specs.State.{delayGiven}
 use Rattle.controls.specs.Phases.{hasStarted, phaseAfter}
 use Rattle.refusals.specs.Checks.{firstHit, answered-cases, answered-done}
 use Rattle.refusals.specs.Exactly.{clear}
 use Rattle.entries.specs.Entry.{startChecks, startRefused, startDone, started, orderChecks, orderRefused, orderDone, entered, deleteChecks, deleteRefused, deleteDone, deleted}
-use Rattle.entries.specs.Quote.{quoteChecks, quoteRefused, quoteDone, quoted}
+use Rattle.quotation.specs.Quote.{quoteChecks, quoteRefused, quoteDone, quoted}
 use Rattle.courses.specs.Answer.{answerOf}
 use Rattle.answers.specs.Auctions.{AuctionLeaves, heldBy, outcomeOf, sessionAfter, auctionLeaves, auctionChecks, auctionRefused, auctionDone, auctioned}
 use Rattle.session.specs.State.{part}

@@ -25,9 +25,9 @@ use Rattle.book.specs.Additions.{stored-resting}
 use Rattle.refusals.specs.Checks.{firstHit, answered-done}
 use Rattle.session.specs.declared.{Session.Session}
 use Rattle.session.specs.Sound.{legalPrice, Sound}
-use Rattle.entries.specs.declared.Quoted.{Quoted}
-use Rattle.entries.specs.Quote.{bookWithout, quoteChecks, bidEntered, askEntered, bidPlace, bookWithBid, askPlace, bookWithQuote, quotedSession, quoteRefused, quoteDone, quoted}
-use Rattle.entries.specs.QuoteSound.{AcceptedQuote, accepted-quote, quote-fields, with-bid, bid-back}
+use Rattle.quotation.specs.declared.Quoted.{Quoted}
+use Rattle.quotation.specs.Quote.{bookWithout, quoteChecks, bidEntered, askEntered, bidPlace, bookWithBid, askPlace, bookWithQuote, quotedSession, quoteRefused, quoteDone, quoted}
+use Rattle.quotation.specs.QuoteSound.{AcceptedQuote, accepted-quote, quote-fields, with-bid, bid-back}
 use Rattle.demands.specs.Answers.{quote-answer}
 use Rattle.demands.specs.Sequences.{RestsAt}
 

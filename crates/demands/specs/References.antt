@@ -20,9 +20,10 @@ use Rattle.refusals.specs.Checks.{firstHit, answeredBy, answered-cases}
 use Rattle.refusals.specs.Exactly.{clear}
 use Rattle.session.specs.declared.{Session.Session}
 use Rattle.session.specs.State.{freshSession, part}
-use Rattle.entries.specs.declared.{Started.Started, Entered.Entered, Quoted.Quoted}
+use Rattle.entries.specs.declared.{Started.Started, Entered.Entered}
+use Rattle.quotation.specs.declared.{Quoted.Quoted}
 use Rattle.entries.specs.Entry.{controlReference, startChecks, startRefused, startDone, started, orderChecks, orderRefused, orderDone, entered}
-use Rattle.entries.specs.Quote.{quoteChecks, quoteRefused, quoteDone, quoted}
+use Rattle.quotation.specs.Quote.{quoteChecks, quoteRefused, quoteDone, quoted}
 use Rattle.courses.specs.Answer.{answerOf}
 use Rattle.answers.specs.Auctions.{AuctionLeaves, outcomeOf, sessionAfter, auctionLeaves, auctionChecks, auctionRefused, auctionDone, auctioned}
 use Rattle.foresight.specs.Theoretical.{theoretical}

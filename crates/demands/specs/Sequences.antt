@@ -28,13 +28,13 @@ use Rattle.session.specs.declared.{Session.Session}
 use Rattle.entries.specs.declared.{Started.Started, Deleted.Deleted}
 use Rattle.session.specs.State.{freshSession}
 use Rattle.entries.specs.Entry.{startChecks, startRefused, startDone, started, orderChecks, orderRefused, orderDone, entered, deleteChecks, deleteRefused, deleteDone, deleted}
-use Rattle.entries.specs.Quote.{quoteChecks, quoteRefused, quoteDone, quoted}
+use Rattle.quotation.specs.Quote.{quoteChecks, quoteRefused, quoteDone, quoted}
 use Rattle.answers.specs.Auctions.{AuctionLeaves, outcomeOf, sessionAfter, auctionChecks, auctionRefused, auctionDone, auctioned}
 use Rattle.session.specs.State.{part}
 use Rattle.answers.specs.SoundAfter.{auctioned-sound}
 use Rattle.session.specs.Sound.{Sound, fresh-sound}
 use Rattle.entries.specs.SoundAfter.{started-sound, entered-sound, deleted-sound}
-use Rattle.entries.specs.QuoteSound.{quoted-sound}
+use Rattle.quotation.specs.QuoteSound.{quoted-sound}
 use Rattle.demands.specs.Answers.{order-answer, quote-answer}
 
 -- a call with all that it is given but the session: one that may change the session, or one that only looks at it

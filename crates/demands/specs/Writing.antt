@@ -16,7 +16,7 @@ use Rattle.refusals.specs.Checks.{answered-number, answered-not-done}
 use Rattle.refusals.specs.Exactly.{ruleOf}
 use Rattle.session.specs.declared.{Session.Session}
 use Rattle.entries.specs.Entry.{started, entered, deleted}
-use Rattle.entries.specs.Quote.{quoted}
+use Rattle.quotation.specs.Quote.{quoted}
 use Rattle.answers.specs.Auctions.{auctioned}
 use Rattle.records.specs.declared.{kinds.Record.Record, kinds.Deletion.Deletion}
 use Rattle.records.specs.Fields.{inRange}

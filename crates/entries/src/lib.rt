@@ -1,31 +1,20 @@
-// Start, order, quote and delete: the calls that a session's entries come in by. The promise of each is one equation: everything that it returns and the
+// Start, order and delete: the calls that a session's entries come in by, quotes apart. The promise of each is one equation: everything that it returns and the
 // session after it (A1).
 mod changes;
 
 use changes::changed;
-use changes::requoted;
 use controls::Phase;
 use effects::Effect;
-use effects::QuoteChange;
-use effects::QuoteEffect;
 use effects::delete_effect;
 use effects::order_effect;
-use effects::quote_effect;
-use quotes::Pair;
 use session::Session;
 use terms::Entry;
 use terms::Parameters;
 use terms::ParametersMade;
-use terms::QuoteEntry;
-use terms::Side;
 use terms::Start;
 ghost use mathlib.Core.Path.{_≡_};
 ghost use Rattle.session.specs.Sound.{Sound};
 ghost use Rattle.entries.specs.Entry.{started as Entry·started, entered as Entry·entered, deleted as Entry·deleted};
-ghost use Rattle.entries.specs.Quote.{quoted as Quote·quoted};
-ghost use Rattle.entries.specs.QuoteCall.{quotedWith};
-ghost use Prim.Native.Nat.{_<_};
-ghost use Rattle.terms.specs.Bounds.{places};
 
 pub struct Started {
     pub answer: u8,
@@ -35,13 +24,6 @@ pub struct Started {
 pub struct Entered {
     pub answer: u8,
     pub number: u32,
-    pub session: Session,
-}
-
-pub struct Quoted {
-    pub answer: u8,
-    pub bid: u32,
-    pub ask: u32,
     pub session: Session,
 }
 
@@ -104,62 +86,6 @@ pub fn order(session: Session, e: Entry) -> Entered
             number: c.given,
             session: changed(session, c),
         },
-    }
-}
-
-fn quote_done(session: Session, c: QuoteChange) -> Quoted
-    requires { ⌜ (c .fresh .bid < places) × (c .fresh .ask < places) ⌝ }
-    ensures { λ r. ⌜ r ≡ quotedWith session c ⌝ }
-{
-    let bid = c.bid;
-    let ask = c.ask;
-    Quoted {
-        answer: 0,
-        bid: bid.number,
-        ask: ask.number,
-        session: requoted(session, c),
-    }
-}
-
-// Quote: refusals 1, 13, 2, 4, 5, 6, 7, 8, 9, 10. The member's old quote is gone first; the bid takes the first of two new numbers and places, the
-// ask the second; both are entered, or nothing changes (02 K2).
-pub fn quote(session: Session, e: QuoteEntry) -> Quoted
-    requires { ⌜ Sound session ⌝ }
-    ensures { λ r. ⌜ r ≡ Quote·quoted session e ⌝ }
-{
-    let phase = session.phase;
-    let parameters = session.parameters;
-    let bid = quotes::quote_place(
-        &session.book.quoted,
-        &session.book.member,
-        &session.book.side,
-        e.member,
-        Side::BUY,
-    );
-    let ask = quotes::quote_place(
-        &session.book.quoted,
-        &session.book.member,
-        &session.book.side,
-        e.member,
-        Side::SELL,
-    );
-    let effect = quote_effect(
-        phase,
-        parameters,
-        parameters.reference,
-        session.given,
-        &session.book.taken,
-        Pair { bid, ask },
-        e,
-    );
-    match effect {
-        QuoteEffect::Refused(answer) => Quoted {
-            answer,
-            bid: 0,
-            ask: 0,
-            session,
-        },
-        QuoteEffect::Done(c) => quote_done(session, c),
     }
 }
 

@@ -16,7 +16,7 @@ use Rattle.session.specs.Sound.{legalPrice, Sound}
 use Rattle.effects.specs.declared.{Change.Change}
 use Rattle.effects.specs.declared.quoting.{QuoteChange.QuoteChange}
 use Rattle.entries.specs.Changes.{changed}
-use Rattle.entries.specs.QuoteCall.{requotedIn}
+use Rattle.quotation.specs.QuoteCall.{requotedIn}
 use Rattle.transcript.specs.Steps.{QuotesKnown}
 
 -- of the columns of a book

@@ -37,9 +37,9 @@ use Rattle.effects.specs.Effects.{orderEffect, deleteEffect, order-place, order
 use Rattle.effects.specs.declared.quoting.{QuoteChange.QuoteChange, QuoteEffect.QuoteEffect}
 use Rattle.effects.specs.QuoteEffects.{quoteEffect, TwoSides, two-sides}
 use Rattle.entries.specs.Entry.{controlReference, entered, deleted}
-use Rattle.entries.specs.Quote.{quoted}
-use Rattle.entries.specs.QuoteCall.{requotedIn, oldIn, quoteIn, quotedBy, quoted-by, quote-placed}
-use Rattle.entries.specs.QuoteSound.{quoted-sound}
+use Rattle.quotation.specs.Quote.{quoted}
+use Rattle.quotation.specs.QuoteCall.{requotedIn, oldIn, quoteIn, quotedBy, quoted-by, quote-placed}
+use Rattle.quotation.specs.QuoteSound.{quoted-sound}
 use Rattle.quotes.specs.declared.{Pair.Pair}
 use Rattle.quotes.specs.Quotes.{quotePlaceIn}
 use Rattle.quotes.specs.QuoteHints.{OneQuoteIn, Hinted}

@@ -7,12 +7,13 @@ use Rattle.terms.specs.Bounds.{tradeListLength}
 use Rattle.terms.specs.Orders.{auctionFrom}
 use Rattle.trades.specs.declared.{Trade.Trade}
 use Rattle.session.specs.declared.{Session.Session}
-use Rattle.entries.specs.declared.{Started.Started, Entered.Entered, Deleted.Deleted, Quoted.Quoted}
+use Rattle.entries.specs.declared.{Started.Started, Entered.Entered, Deleted.Deleted}
+use Rattle.quotation.specs.declared.{Quoted.Quoted}
 use Rattle.courses.specs.declared.{AuctionAnswer.AuctionAnswer}
 use Rattle.answers.specs.declared.{Auctioned.Auctioned}
 use Rattle.session.specs.State.{freshSession}
 use Rattle.entries.specs.Entry.{started, entered, deleted}
-use Rattle.entries.specs.Quote.{quoted}
+use Rattle.quotation.specs.Quote.{quoted}
 use Rattle.answers.specs.Auctions.{auctionChecks, auctioned, tradesNow}
 use Rattle.refusals.specs.Checks.{answered}
 use Rattle.records.specs.declared.{kinds.Record.Record}

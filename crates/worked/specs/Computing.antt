@@ -15,7 +15,7 @@ use Rattle.auction.specs.Outcome.{nonOpening, outcome}
 use Rattle.auction.specs.After.{restOf}
 use Rattle.refusals.specs.Checks.{firstHit}
 use Rattle.entries.specs.Entry.{started, entered, deleted}
-use Rattle.entries.specs.Quote.{quoted}
+use Rattle.quotation.specs.Quote.{quoted}
 use Rattle.answers.specs.Auctions.{outcomeOf, auctioned}
 use Rattle.foresight.specs.Theoretical.{theoretical}
 use Rattle.standings.specs.Queues.{queued, filledFront}

@@ -6,7 +6,7 @@ use mathlib.Core.List.{[], _∷_}
 use Rattle.terms.specs.declared.quote_terms.{QuoteEntry.QuoteEntry}
 use Rattle.book.specs.Columns.{orderAt}
 use Rattle.session.specs.declared.{Session.Session}
-use Rattle.entries.specs.Quote.{quoted}
+use Rattle.quotation.specs.Quote.{quoted}
 use Rattle.worked.specs.Computing.{computing}
 use Rattle.worked.specs.Samples.{startedAt, buy, sell, enter, auctionAnswered, numbers}
 

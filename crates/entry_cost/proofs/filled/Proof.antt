@@ -4,8 +4,9 @@ use native.Mathlib.Omega.{arith}
 use borrow.Author.Needs.{needs}
 use Rattle.session.specs.Sound.{Sound}
 use Rattle.entries.specs.SoundAfter.{entered-sound}
-use Rattle.entries.specs.QuoteSound.{quoted-sound}
-use Rattle.entries.specs.declared.{Entered.Entered, Quoted.Quoted}
+use Rattle.quotation.specs.QuoteSound.{quoted-sound}
+use Rattle.entries.specs.declared.{Entered.Entered}
+use Rattle.quotation.specs.declared.{Quoted.Quoted}
 use Rattle.entry_cost.proofs.filled.Statement.{statement}
 use Rattle.entry_cost.proofs.filled.Tie as tie
 

@@ -1,8 +1,8 @@
 use mathlib.Core.Path.{sym, subst}
 use borrow.Author.Needs.{needs}
 use Rattle.session.specs.Sound.{Sound}
-use Rattle.entries.specs.QuoteSound.{quoted-sound}
-use Rattle.entries.specs.declared.{Quoted.Quoted}
+use Rattle.quotation.specs.QuoteSound.{quoted-sound}
+use Rattle.quotation.specs.declared.{Quoted.Quoted}
 use Rattle.looks.proofs.quoted.Statement.{statement}
 use Rattle.looks.proofs.quoted.Tie as tie
 

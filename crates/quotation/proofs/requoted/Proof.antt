@@ -1,6 +1,6 @@
 use borrow.Author.Needs.{needs}
-use Rattle.entries.proofs.changes.requoted.Statement.{statement}
-use Rattle.entries.proofs.changes.requoted.Tie as tie
+use Rattle.quotation.proofs.requoted.Statement.{statement}
+use Rattle.quotation.proofs.requoted.Tie as tie
 
 requote-words-requires : tie.Need-requote-words-requires
 requote-words-requires c κs = search needs

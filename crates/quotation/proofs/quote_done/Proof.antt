@@ -1,6 +1,6 @@
 use borrow.Author.Needs.{needs}
-use Rattle.entries.proofs.quote_done.Statement.{statement}
-use Rattle.entries.proofs.quote_done.Tie as tie
+use Rattle.quotation.proofs.quote_done.Statement.{statement}
+use Rattle.quotation.proofs.quote_done.Tie as tie
 
 requoted-requires : tie.Need-requoted-requires
 requoted-requires c κs = search needs

@@ -24,9 +24,9 @@ use Rattle.effects.specs.QuoteEffects.{freedWords, freshPair, quoteChange, quot
 use Rattle.session.specs.declared.{Session.Session}
 use Rattle.session.specs.State.{withBook}
 use Rattle.session.specs.Sound.{legalPrice, Sound}
-use Rattle.entries.specs.declared.{Quoted.Quoted}
+use Rattle.quotation.specs.declared.{Quoted.Quoted}
 use Rattle.entries.specs.Entry.{controlReference}
-use Rattle.entries.specs.Quote.{bookWithout, quoteChecks, bidEntered, askEntered, bidPlace, bookWithBid, askPlace, quoteRefused, quoteDone, quoted}
+use Rattle.quotation.specs.Quote.{bookWithout, quoteChecks, bidEntered, askEntered, bidPlace, bookWithBid, askPlace, quoteRefused, quoteDone, quoted}
 
 -- a session with a quote's change
 abbrev pub requotedIn : Session → QuoteChange → Session

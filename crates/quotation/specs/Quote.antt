@@ -14,8 +14,8 @@ use Rattle.refusals.specs.Checks.{Check, answered}
 use Rattle.refusals.specs.Rows.{quoteRows}
 use Rattle.session.specs.declared.{Session.Session}
 use Rattle.session.specs.State.{withBook}
-use Rattle.entries.specs.declared.{Quoted.Quoted}
+use Rattle.quotation.specs.declared.{Quoted.Quoted}
 use Rattle.entries.specs.Entry.{controlReference}
 
 -- a new quote first removes what is left of the member's old one
 abbrev pub bookWithout : Session → QuoteEntry → Book

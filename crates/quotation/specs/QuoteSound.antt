@@ -26,10 +26,10 @@ use Rattle.refusals.specs.Checks.{firstHit, answered-cases}
 use Rattle.refusals.specs.Exactly.{clear}
 use Rattle.session.specs.declared.{Session.Session}
 use Rattle.session.specs.Sound.{legalPrice, Sound, with-book-sound}
-use Rattle.entries.specs.declared.{Quoted.Quoted}
+use Rattle.quotation.specs.declared.{Quoted.Quoted}
 use Rattle.entries.specs.SoundAfter.{on-step-legal}
-use Rattle.entries.specs.Quote.{bookWithout, quoteChecks, bidEntered, askEntered, bidPlace, bookWithBid, askPlace, bookWithQuote, quoteRefused, quoteDone, quoted}
-use Rattle.entries.specs.QuoteCall.{bid-is-placed, ask-is-placed}
+use Rattle.quotation.specs.Quote.{bookWithout, quoteChecks, bidEntered, askEntered, bidPlace, bookWithBid, askPlace, bookWithQuote, quoteRefused, quoteDone, quoted}
+use Rattle.quotation.specs.QuoteCall.{bid-is-placed, ask-is-placed}
 
 -- What an accepted quote is known to have.
 pub record AcceptedQuote (s : Session) (e : QuoteEntry) : Type 0 where

@@ -1,8 +1,8 @@
-use Rattle.entries.specs.QuoteCall.{quoteIn, quotedBy, quoted-by, quote-placed}
+use Rattle.quotation.specs.QuoteCall.{quoteIn, quotedBy, quoted-by, quote-placed}
 use mathlib.Core.Path.{_≡_, sym, ap, _∙_}
 use borrow.Author.Needs.{needs}
-use Rattle.entries.proofs.quote.Statement.{statement}
-use Rattle.entries.proofs.quote.Tie as tie
+use Rattle.quotation.proofs.quote.Statement.{statement}
+use Rattle.quotation.proofs.quote.Tie as tie
 
 abbrev start : tie.After-quote-effect → tie.Start
 start c = c .before .before .before .before .before .before .before .before .before .before .before .before .before .before
