@@ -92,8 +92,8 @@ controls-of-the-start cs ds x accepted =
 abbrev pub inForce : Session → Bool → Price → Session
 inForce s delayed reference = record { phase = s .phase; delayed = delayed; parameters = s .parameters; reference = reference; given = s .given; book = s .book }
 
--- K4b. With equal books, phases and parameters the answer to an order does not depend on the reference price in force, nor does anything that the
--- call leaves, but that price itself.
+-- K4b. The answer to an order does not depend on the reference price in force: of two sessions that differ in it, and in the mark of the delay, and
+-- have equal books, phases, parameters and numbers given, both answer and leave the same, but for that price and that mark.
 pub order-by-the-start : (s : Session) (delayed : Bool) (reference : Price) (e : Entry)
     → entered (inForce s delayed reference) e
     ≡ record { answer = entered s e .answer; number = entered s e .number; session = inForce (entered s e .session) delayed reference }

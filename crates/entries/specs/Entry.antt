@@ -30,8 +30,7 @@ startDone s x = record { answer = 0; session = begun s (parametersFrom x) }
 unfoldable pub started : Session → Start → Started
 started s x = answered (startChecks s x) (startRefused s) (startDone s x)
 
--- the reference price that controls 6 and 8 use: that of the start record, the previous trading day's, for the whole session (02 K4; 004 clause
--- 10)
+-- the reference price that controls 6 and 8 use: the start record's, for the whole session (02 K4; 004 clause 10, paragraph 3)
 abbrev pub controlReference : Session → Price
 controlReference s = s .parameters .reference
 
