@@ -1,0 +1,6 @@
+-- The square, its members and its cells.
+
+-- the paper
+pub mod Square
+-- as the code computes it
+pub mod Naming
