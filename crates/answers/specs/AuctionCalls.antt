@@ -3,12 +3,15 @@ use Prim.Native.Nat.{ℕ, zero, suc, _*_, _≤_}
 use mathlib.Core.Bool.{Bool, true, false, true≢false}
 use mathlib.Core.Logic.{_≢_}
 use mathlib.Core.Path.{_≡_, refl, sym, ap, _∙_}
-use mathlib.Core.List.{List, _++_}
+use mathlib.Core.List.{List, [], _++_}
 use native.Mathlib.Omega.{arith}
 use borrow.Author.Tests.{ltb-false}
+use lib.Dec.{leb}
 use lib.ListN.{length, take, drop}
-use Rattle.terms.specs.Bounds.{places, tradeListLength}
-use Rattle.terms.specs.Orders.{auctionFrom}
+use Rattle.lists.specs.Tests.{tests, and-both}
+use Rattle.lists.specs.Sums.{_∈_, counted, counted-le, sum-bound}
+use Rattle.terms.specs.Bounds.{places, tradeListLength, minQuantity, maxQuantity}
+use Rattle.terms.specs.Orders.{Resting, auctionFrom}
 use Rattle.terms.specs.declared.kinds.{Price.Price}
 use Rattle.terms.specs.declared.orders.{Side.Side, Side.the-variants.Buy, Side.the-variants.Sell, Auction.Auction}
 use Rattle.book.specs.declared.Book.{Book}
@@ -16,11 +19,13 @@ use Rattle.book.specs.Resting.{resting}
 use Rattle.book.specs.ByPlace.{resting-length}
 use Rattle.places.specs.Places.{behindTaken}
 use Rattle.book.specs.Settling.{settledTo}
-use Rattle.queue.specs.Part.{takingPart-length}
-use Rattle.price.specs.Interest.{interest, executable-within}
+use Rattle.queue.specs.Part.{takingPart-elim, takingPart-length, takingPart-distinct}
+use Rattle.queue.specs.Reach.{resting-sound, resting-distinct}
+use Rattle.price.specs.Interest.{accepts, interest, executable-within}
 use Rattle.trades.specs.declared.{Trade.Trade}
 use Rattle.auction.specs.declared.{Outcome.Outcome, Outcome.the-variants.Traded, Outcome.the-variants.NoTrade, Outcome.the-variants.NonOpening, Outcome.the-variants.Delayed}
-use Rattle.trades.specs.TradesOf.{tradesOf, trades-none, trades-count}
+use Rattle.trades.specs.Trades.{volume}
+use Rattle.trades.specs.TradesOf.{tradesOf, trades-none, trades-volume, trades-count}
 use Rattle.auction.specs.declared.trading.{Closed.Closed}
 use Rattle.auction.specs.Outcome.{outcome, trades, priceAnswered, quantityAnswered, outcome-traded}
 use Rattle.auction.specs.Trading.{ranksOn, outcomeIn, tradesIn, restsIn, ranks-few}
@@ -60,6 +65,19 @@ module _ (s : Session) (sound : Sound s) (a : Auction) where
   enough price quantity e on =
       let (found, i) = outcome-traded (heldBy s a) (s .parameters .threshold .0) (s .reference .0) (part s a) price quantity e in
       omega (arith, executable-within on price (part s a))
+
+  -- a book's orders have no more open than places times the largest quantity
+  traded-within : (price quantity : ℕ) → outcomeOf s a ≡ Traded price quantity → volume (tradesOf quantity (part s a)) ≤ places * maxQuantity
+  unfolding interest
+  traded-within price quantity e =
+      rw (trades-volume price quantity (part s a) (takingPart-distinct a (resting (s .book)) (resting-distinct (legalPrice s) (s .given) (s .book) (sound .book-sound))) (enough price quantity e))
+      (omega (arith, enough price quantity e Buy, sum-bound (λ o. counted (accepts Buy price o) (o .left)) maxQuantity (part s a) each, takingPart-length a (resting (s .book)), resting-length (s .book) places))
+    where
+      each : (o : Resting) → o ∈ part s a → counted (accepts Buy price o) (o .left) ≤ maxQuantity
+      each o m =
+          let within = resting-sound (legalPrice s) (s .given) (s .book) (sound .book-sound) o (takingPart-elim a (resting (s .book)) m .0) .open-quantity in
+          let most = and-both (leb minQuantity (o .left)) (leb (o .left) maxQuantity) within .1 in
+          omega (tests, counted-le (accepts Buy price o) (o .left))
 
   -- each outcome, as the code leaves it
   traded-leaves : (price quantity count : ℕ) → outcomeOf s a ≡ Traded price quantity → count ≡ length (tradesBy s a quantity) → (list left : List ℕ)
@@ -210,6 +228,47 @@ module _ (s : Session) (sound : Sound s) (which : ℕ) (list : List ℕ) where
 
     room : tradeListLength ≤ length list
     room = ltb-false (length list) tradeListLength (clear checks tt (sym (known .0)) 12)
+
+    -- the trades by their ranks are the auction's; they have room in the list, and move no more than the book holds
+    abbrev pub takenTrades : List Trade
+    takenTrades = tradesIn (quantityAnswered p) (s .book .number) (s .book .left) bidRanks askRanks
+
+    taken-by-ranks : takenTrades ≡ tradesBy s (auctionFrom which) (quantityAnswered p)
+    taken-by-ranks = rw (buys (known .0), sells (known .0))
+
+    pub taken-fits : 4 * length takenTrades ≤ length list
+    taken-fits = fits-list s sound (auctionFrom which) (quantityAnswered p) (length takenTrades) list (ap length taken-by-ranks) room
+
+    pub taken-volume : volume takenTrades ≤ places * maxQuantity
+    taken-volume = rw (taken-by-ranks, by-ranks s sound (auctionFrom which) (quantityAnswered p), known .2) (go (outcomeOf s (auctionFrom which)) refl (ap takesPlace (sym at ∙ takes)))
+      where
+        at : course ≡ courseOf (auctionFrom which) (outcomeOf s (auctionFrom which))
+        at = is ∙ rw (known .0)
+
+        go : (o : Outcome) → outcomeOf s (auctionFrom which) ≡ o → takesPlace (courseOf (auctionFrom which) o) ≡ true → volume (tradesOf (quantityAnswered o) (part s (auctionFrom which))) ≤ places * maxQuantity
+        go (Traded price quantity) e h = traded-within s sound (auctionFrom which) price quantity e
+        go NoTrade e h = rw (trades-none (part s (auctionFrom which))) (omega arith)
+        go NonOpening e h = absurd (true≢false (sym h))
+        go (Delayed price quantity) e h = absurd (true≢false (sym h))
+
+    pub taken-ranks : (bidRanks ≡ ranksOn (s .book) (auctionFrom which) Buy) × (askRanks ≡ ranksOn (s .book) (auctionFrom which) Sell)
+    taken-ranks = (buys (known .0), sells (known .0))
+
+    -- as many are answered
+    pub taken-count : (count : ℕ) → count ≡ length takenTrades → resultBy course count .count ≡ count
+    taken-count count c = rw takes (go p refl)
+      where
+        placed : (o : Outcome) → p ≡ o → takesPlace (courseOf (auctionFrom which) o) ≡ true
+        placed o e = let at : course ≡ courseOf (auctionFrom which) o = is ∙ rw (known .0, ← known .2, e) in ap takesPlace (sym at ∙ takes)
+
+        none : p ≡ NoTrade → takenTrades ≡ []
+        none e = taken-by-ranks ∙ rw e (by-ranks s sound (auctionFrom which) 0 ∙ trades-none (part s (auctionFrom which)))
+
+        go : (o : Outcome) → p ≡ o → answerWith o count .count ≡ count
+        go (Traded price quantity) e = refl
+        go NoTrade e = sym (c ∙ ap length (none e))
+        go NonOpening e = absurd (true≢false (sym (placed NonOpening e)))
+        go (Delayed price quantity) e = absurd (true≢false (sym (placed (Delayed price quantity) e)))
 
     -- by the outcome
     leaves-of : (o : Outcome) → outcomeOf s (auctionFrom which) ≡ o → takesPlace (courseOf (auctionFrom which) o) ≡ true → (count : ℕ) (left : List ℕ)

@@ -4,3 +4,4 @@
 pub mod Square
 -- as the code computes it
 pub mod Naming
+pub mod Pairs

@@ -1,10 +1,15 @@
 -- The sides of trades under other names: places for numbers, and numbers for places.
 use Prim.Native.Nat.{ℕ, zero, suc, _+_, _*_, _<_, _≤_}
+use mathlib.Core.Bool.{Bool, true, false}
 use mathlib.Core.Path.{_≡_, refl, sym, ap, _∙_}
 use mathlib.Core.List.{List, [], _∷_, _++_, map, List·Memᴰ·head, List·Memᴰ·tail}
 use native.Mathlib.Omega.{arith}
-use lib.ListN.{length, getD, set, drop}
+use borrow.Author.Tests.{ltb-true, ltb-false}
+use lib.Dec.{ltb}
+use lib.ListN.{length, getD, set, drop, length-append, List·getD-append}
+use lib.Seq.{drop-cons, set-at, append-snoc, getD-at}
 use Rattle.lists.specs.Sums.{_∈_}
+use Rattle.terms.specs.Bounds.{places}
 use Rattle.trades.specs.declared.{Trade.Trade}
 use Rattle.trades.specs.Written.{quadruples, tradesRead}
 
@@ -20,6 +25,14 @@ renamed f (suc k) (b ∷ []) = b ∷ []
 renamed f (suc k) (b ∷ s ∷ []) = b ∷ s ∷ []
 renamed f (suc k) (b ∷ s ∷ q ∷ []) = b ∷ s ∷ q ∷ []
 renamed f (suc k) (b ∷ s ∷ q ∷ p ∷ list) = f b ∷ f s ∷ q ∷ p ∷ renamed f k list
+
+-- the first n places, and the column that has at each place the place
+unfoldable pub placesTo : ℕ → List ℕ
+placesTo zero = []
+placesTo (suc n) = placesTo n ++ (n ∷ [])
+
+abbrev pub placeColumn : List ℕ
+placeColumn = placesTo places
 
 -- trades written to a list and renamed there
 pub renamed-written : (f : ℕ → ℕ) (price : ℕ) (ts : List Trade) (rest : List ℕ) → renamed f (length ts) (quadruples price ts ++ rest) ≡ quadruples price (map (named f) ts) ++ rest
@@ -102,3 +115,26 @@ module _ (f : ℕ → ℕ) where
   renamed-next (suc i) (b ∷ s ∷ []) h = absurd (omega arith)
   renamed-next (suc i) (b ∷ s ∷ q ∷ []) h = absurd (omega arith)
   renamed-next (suc i) (b ∷ s ∷ q ∷ p ∷ list) h = rw (more i 1, four-more i) (ap (λ (l : List ℕ). f b ∷ f s ∷ q ∷ p ∷ l) (renamed-next i list (omega arith)))
+
+-- ---- place by place
+places-length : (n : ℕ) → length (placesTo n) ≡ n
+unfolding placesTo
+places-length zero = refl
+places-length (suc n) = omega (arith, length-append (placesTo n) (n ∷ []), places-length n)
+
+pub place-written : (n : ℕ) (old : List ℕ) → n < length old → set (placesTo n ++ drop n old) n n ≡ placesTo (n + 1) ++ drop (n + 1) old
+unfolding placesTo
+place-written n old h =
+    let e : n + 1 ≡ suc n = omega arith in
+    rw (drop-cons old n 0 h, e) (set-at (placesTo n) (getD old n 0) (drop (suc n) old) n n (places-length n) ∙ sym (append-snoc (placesTo n) n (drop (suc n) old)))
+
+pub place-at : (n p : ℕ) → p < n → getD (placesTo n) p 0 ≡ p
+unfolding placesTo
+place-at zero p h = absurd (omega arith)
+place-at (suc n) p h = go (ltb p n) refl (place-at n p)
+  where
+    go : (b : Bool) → ltb p n ≡ b → (p < n → getD (placesTo n) p 0 ≡ p) → getD (placesTo n ++ (n ∷ [])) p 0 ≡ p
+    go true e below = List·getD-append (placesTo n) (n ∷ []) 0 p (omega (arith, ltb-true p n e, places-length n)) ∙ below (ltb-true p n e)
+    go false e below =
+        let last : p ≡ n = omega (arith, ltb-false p n e) in
+        rw last (getD-at (placesTo n) n [] 0 n (places-length n))

@@ -10,7 +10,7 @@ ghost use Rattle.terms.specs.Bounds.{places};
 ghost use Rattle.trades.specs.Trades.{volume};
 ghost use Rattle.trades.specs.Written.{tradesRead};
 ghost use Rattle.squares.specs.Square.{squareMembers, squareCells, rowOf, cellOf, Small, InBook, total, addedAt, addedTo, rowAt, squareOf};
-ghost use Rattle.squares.specs.Naming.{renamed};
+ghost use Rattle.squares.specs.Naming.{renamed, placeColumn};
 
 // Members that a square has room for: one row and one column for each.
 pub const MEMBERS: usize = 32;
@@ -89,6 +89,34 @@ pub fn name_orders(list: &mut [u32], count: usize, numbers: &[u32; Place::COUNT]
         list[at + 1] = numbers[sell];
         i += 1;
     }
+}
+
+// Trades of a list whose sides are told by places: added to their cells, and told by the numbers of the orders there from now on.
+pub fn clear_trades<'a>(
+    totals: &mut [u64; CELLS],
+    list: &mut [u32],
+    count: usize,
+    rows: &'a [u8; Place::COUNT],
+    numbers: &'a [u32; Place::COUNT],
+)
+    requires { ⌜ (length (now totals) ≡ squareCells) × (4 * count ≤ length (now list)) × Small (now rows) × InBook (tradesRead count (now list)) × (total (now totals) + volume (tradesRead count (now list)) < 2 ^ 64) ⌝ }
+    ensures { λ r. ⌜ (now (totals .exit) ≡ addedTo (λ p. getD (now (rows .entry)) p 0) (tradesRead count (now (list .entry))) (now (totals .entry))) × (now (list .exit) ≡ renamed (λ p. getD (now (numbers .entry)) p 0) count (now (list .entry))) ⌝ }
+{
+    add_trades(totals, list, count, rows);
+    name_orders(list, count, numbers);
+}
+
+// A column that has at each place the place.
+pub fn place_column() -> [u32; Place::COUNT]
+    ensures { λ r. ⌜ r ≡ placeColumn ⌝ }
+{
+    let mut column = [0u32; Place::COUNT];
+    let mut place: usize = 0;
+    while place < Place::COUNT {
+        column[place] = place as u32;
+        place += 1;
+    }
+    column
 }
 
 // A row of the square.

@@ -1,0 +1,7 @@
+-- A session that keeps the square.
+
+-- the paper
+pub mod Desk
+pub mod Calls
+-- its property
+pub mod Sound

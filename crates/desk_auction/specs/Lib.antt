@@ -1,0 +1,6 @@
+-- The auction of a session that keeps the square.
+
+-- the paper
+pub mod Auctions
+-- as the code computes it
+pub mod AuctionCalls
