@@ -1,10 +1,11 @@
 -- Every call: one answer (A2), refusals given exactly when (A4), and a refusal changes nothing (A5). The promises themselves (A1) stand
 -- with the calls; each is an equation with the definition named here.
 use Prim.Native.Nat.{ℕ, _+_, _<_}
-use mathlib.Core.Bool.{not, _&&_, _||_}
+use mathlib.Core.Bool.{false, not, _&&_, _||_}
 use mathlib.Core.Logic.{_↔_, _≢_}
 use mathlib.Core.Path.{_≡_, refl, sym, ap, _∙_}
 use mathlib.Core.List.{List, []}
+use native.Mathlib.Omega.{arith}
 use lib.Dec.{T, leb, ltb, eqb}
 use lib.ListN.{length}
 use Rattle.lists.specs.Choice.{any}
@@ -111,7 +112,7 @@ order-exactly s e = exactly (orderChecks s e) tt _ (order-answer s e)
 pub delete-exactly : (s : Session) (number member : ℕ) → ExactlyWhen (deleted s number member .answer) (deleteChecks s number member)
 delete-exactly s number member = exactly (deleteChecks s number member) tt _ (delete-answer s number member)
 
--- .. of a quote (02 K2): 1, 13, 2, 4, 5, 6, 7, 8, 9, 10
+-- .. of a quote (02 K2): 1, 13, 2, 4, 5, 6, 7, 8, 9, 10; 16 has no case here (02 K5)
 pub quote-exactly : (s : Session) (e : QuoteEntry) → ExactlyWhen (quoted s e .answer) (quoteChecks s e)
 quote-exactly s e = exactly (quoteChecks s e) tt _ (quote-answer s e)
 
@@ -128,7 +129,7 @@ pub front-exactly : (buys sells : List ℕ) (side total : ℕ) → ExactlyWhen (
 front-exactly buys sells side total = exactly (frontChecks buys sells side) tt _ (front-answer buys sells side total)
 
 -- The rules one by one, as the table of 01 has them; those of a quote as 02 K2 has them: 5 to 8 where the bid hits or the ask does, 9 where fewer than
--- two numbers are left, and 10 where fewer than two places would be, the member's old quote gone.
+-- two numbers are left, and 10 where fewer than two places would be, the member's old quote gone. 16 has no case in a session without the square (02 K5).
 pub record Rules (s : Session) : Type 0 where
   pub start-1 : (x : Start) → ruleOf 1 (startChecks s x) ≡ not (isStart x)
   pub start-3 : (x : Start) → ruleOf 3 (startChecks s x) ≡ hasStarted (s .phase)
@@ -139,6 +140,7 @@ pub record Rules (s : Session) : Type 0 where
   pub order-6 : (e : Entry) → ruleOf 6 (orderChecks s e) ≡ reachesCollar (controlReference s) (s .parameters .factor) (orderFrom e .limit)
   pub order-7 : (e : Entry) → ruleOf 7 (orderChecks s e) ≡ reachesMost (s .parameters .most) (orderFrom e .quantity) (orderFrom e .limit)
   pub order-8 : (e : Entry) → ruleOf 8 (orderChecks s e) ≡ reachesMostAtReference (s .parameters .most) (orderFrom e .quantity) (controlReference s)
+  pub order-16 : (e : Entry) → ruleOf 16 (orderChecks s e) ≡ false
   pub order-9 : (e : Entry) → ruleOf 9 (orderChecks s e) ≡ leb maxNumber (s .given)
   pub order-10 : (e : Entry) → ruleOf 10 (orderChecks s e) ≡ eqb (countTaken (s .book .taken)) places
   pub delete-1 : (number member : ℕ) → ruleOf 1 (deleteChecks s number member) ≡ not (isNumber number && isMember member)
@@ -156,6 +158,7 @@ pub record Rules (s : Session) : Type 0 where
       ≡ reachesMost (s .parameters .most) (quoteFrom e .bid .quantity) (quoteOrder (quoteFrom e) Buy .limit) || reachesMost (s .parameters .most) (quoteFrom e .ask .quantity) (quoteOrder (quoteFrom e) Sell .limit)
   pub quote-8 : (e : QuoteEntry) → ruleOf 8 (quoteChecks s e)
       ≡ reachesMostAtReference (s .parameters .most) (quoteFrom e .bid .quantity) (controlReference s) || reachesMostAtReference (s .parameters .most) (quoteFrom e .ask .quantity) (controlReference s)
+  pub quote-16 : (e : QuoteEntry) → ruleOf 16 (quoteChecks s e) ≡ false
   pub quote-9 : (e : QuoteEntry) → ruleOf 9 (quoteChecks s e) ≡ ltb maxNumber (s .given + 2)
   pub quote-10 : (e : QuoteEntry) → ruleOf 10 (quoteChecks s e) ≡ ltb places (countTaken (withoutQuote (e .member) (s .book) .taken) + 2)
   pub auction-1 : (which size : ℕ) → ruleOf 1 (auctionChecks s which size) ≡ not (isAuction which)
@@ -181,6 +184,7 @@ rules s = record {
   order-6 = λ e. refl;
   order-7 = λ e. refl;
   order-8 = λ e. refl;
+  order-16 = λ e. refl;
   order-9 = λ e. refl;
   order-10 = λ e. refl;
   delete-1 = λ number member. refl;
@@ -194,6 +198,7 @@ rules s = record {
   quote-6 = λ e. refl;
   quote-7 = λ e. refl;
   quote-8 = λ e. refl;
+  quote-16 = λ e. refl;
   quote-9 = λ e. refl;
   quote-10 = λ e. refl;
   auction-1 = λ which size. refl;
@@ -208,6 +213,13 @@ rules s = record {
   ranked-12 = λ side which size. refl;
   front-1 = λ buys sells side. refl;
 }
+
+-- .. so that no order and no quote is answered 16 there
+pub no-sixteen-for-order : (s : Session) (e : Entry) → entered s e .answer ≢ 16
+no-sixteen-for-order s e h = order-exactly s e .refused 16 (omega arith) .0 h .0
+
+pub no-sixteen-for-quote : (s : Session) (e : QuoteEntry) → quoted s e .answer ≢ 16
+no-sixteen-for-quote s e h = quote-exactly s e .refused 16 (omega arith) .0 h .0
 
 -- A5. A refusal changes nothing, every other number is 0, and every part is empty.
 pub record ChangesNothing (s : Session) : Type 0 where

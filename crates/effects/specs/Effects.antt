@@ -32,9 +32,10 @@ orderChange number taken o = let place = lowestFree taken in record {
   values = valuesOf (restingAs number false o);
 }
 
-unfoldable pub orderEffect : Phase → Parameters → Price → ℕ → List ℕ → Entry → Effect
-orderEffect phase p reference given taken e =
-    answered (orderRows phase p reference given (isFull taken) e) Effect.Refused (Effect.Done (orderChange (given + 1) taken (orderFrom e)))
+-- beyond: an entry by a thirty-third member, where the square is kept; false in a plain session (02 K5)
+unfoldable pub orderEffect : Phase → Parameters → Price → Bool → ℕ → List ℕ → Entry → Effect
+orderEffect phase p reference beyond given taken e =
+    answered (orderRows phase p reference beyond given (isFull taken) e) Effect.Refused (Effect.Done (orderChange (given + 1) taken (orderFrom e)))
 
 -- a place freed
 abbrev pub deleteChange : ℕ → List ℕ → ℕ → Change
@@ -62,29 +63,34 @@ changes checks done P holds {c} =
       changeOr d (Effect.Done c) = c
 
 -- an entry that is made an order passes check 1, and one that isn't hits it
-module _ (phase : Phase) (p : Parameters) (reference : Price) (given : ℕ) (taken : List ℕ) (e : Entry) where
+module _ (phase : Phase) (p : Parameters) (reference : Price) (beyond : Bool) (given : ℕ) (taken : List ℕ) (e : Entry) where
   abbrev rows : List Check
-  rows = orderRows phase p reference given (isFull taken) e
+  rows = orderRows phase p reference beyond given (isFull taken) e
 
-  pub order-place : {c : Change} → orderEffect phase p reference given taken e ≡ Effect.Done c → c .place < places
+  pub order-place : {c : Change} → orderEffect phase p reference beyond given taken e ≡ Effect.Done c → c .place < places
   unfolding orderEffect
   order-place = changes rows (orderChange (given + 1) taken (orderFrom e)) (λ (c : Change). c .place < places) (λ h. lowest-free-room taken (eqb-false (countTaken taken) places (clear rows tt h 10)))
 
+  -- an order that is done is not beyond
+  pub order-not-beyond : {c : Change} → orderEffect phase p reference beyond given taken e ≡ Effect.Done c → beyond ≡ false
+  unfolding orderEffect
+  order-not-beyond = changes rows (orderChange (given + 1) taken (orderFrom e)) (λ (c : Change). beyond ≡ false) (λ h. clear rows tt h 16)
+
   -- an order is no side of a quote
-  pub order-plain : {c : Change} → orderEffect phase p reference given taken e ≡ Effect.Done c → c .values .quoted ≡ 0
+  pub order-plain : {c : Change} → orderEffect phase p reference beyond given taken e ≡ Effect.Done c → c .values .quoted ≡ 0
   unfolding orderEffect
   order-plain = changes rows (orderChange (given + 1) taken (orderFrom e)) (λ (c : Change). c .values .quoted ≡ 0) (λ h. refl)
 
-  pub order-out-of-range : isEntry e ≡ false → Effect.Refused 1 ≡ orderEffect phase p reference given taken e
+  pub order-out-of-range : isEntry e ≡ false → Effect.Refused 1 ≡ orderEffect phase p reference beyond given taken e
   unfolding orderEffect
   order-out-of-range h = answered-refused rows Effect.Refused _ (hits 1 _ (rw h)) (λ z. omega arith)
 
   module _ {o : Order} (good : (isEntry e ≡ true) × (o ≡ orderFrom e)) {place n : ℕ} {left : Bool} (free : place ≡ lowestFree taken) (is-left : left ≡ isPlace place)
-      (hit : n ≡ firstHit (orderLater phase p reference given (not left) o)) where
+      (hit : n ≡ firstHit (orderLater phase p reference beyond given (not left) o)) where
     order-hit : n ≡ firstHit rows
     order-hit = passes 1 _ (rw (good .0)) (rw (good .1, is-left, free, full-none-free taken) at hit)
 
-    pub order-turned-down : n ≢ 0 → Effect.Refused n ≡ orderEffect phase p reference given taken e
+    pub order-turned-down : n ≢ 0 → Effect.Refused n ≡ orderEffect phase p reference beyond given taken e
     unfolding orderEffect
     order-turned-down h = answered-refused rows Effect.Refused _ order-hit h
 
@@ -96,7 +102,7 @@ module _ (phase : Phase) (p : Parameters) (reference : Price) (given : ℕ) (tak
       place-left = rw free (lowest-free-room taken (eqb-false (countTaken taken) places (clear rows tt (sym z ∙ order-hit) 10)))
 
       pub order-done : {word : ℕ} {values : Values} → word ≡ withBit (place % wordPlaces) (getD taken (place / wordPlaces) 0) → values ≡ valuesOf (restingAs (given + 1) false o)
-          → Effect.Done (record { given = given + 1; place = place; word = word; values = values }) ≡ orderEffect phase p reference given taken e
+          → Effect.Done (record { given = given + 1; place = place; word = word; values = values }) ≡ orderEffect phase p reference beyond given taken e
       unfolding orderEffect
       order-done bits same = rw (bits, free, same, good .1) (answered-done rows Effect.Refused (Effect.Done (orderChange (given + 1) taken (orderFrom e))) (sym z ∙ order-hit))
 

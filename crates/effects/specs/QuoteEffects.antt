@@ -53,9 +53,10 @@ quoteChange given taken old q = record {
   ask = valuesOf (restingAs (given + 2) true (quoteOrder q Sell));
 }
 
-unfoldable pub quoteEffect : Phase → Parameters → Price → ℕ → List ℕ → Pair → QuoteEntry → QuoteEffect
-quoteEffect phase p reference given taken old e =
-    answered (quoteRows phase p reference given (isShort (freedWords taken old)) e) QuoteEffect.Refused (QuoteEffect.Done (quoteChange given taken old (quoteFrom e)))
+-- beyond: an entry by a thirty-third member, where the square is kept; false in a plain session (02 K5)
+unfoldable pub quoteEffect : Phase → Parameters → Price → Bool → ℕ → List ℕ → Pair → QuoteEntry → QuoteEffect
+quoteEffect phase p reference beyond given taken old e =
+    answered (quoteRows phase p reference beyond given (isShort (freedWords taken old)) e) QuoteEffect.Refused (QuoteEffect.Done (quoteChange given taken old (quoteFrom e)))
 
 -- what every change of a quote has: both sides are marked as such and of one member, the bid is a buy and the ask a sell
 pub record TwoSides (c : QuoteChange) : Type 0 where
@@ -65,11 +66,11 @@ pub record TwoSides (c : QuoteChange) : Type 0 where
   pub buys : c .bid .side ≡ 1
   pub sells : c .ask .side ≡ 2
 
-pub two-sides : (phase : Phase) (p : Parameters) (reference : Price) (given : ℕ) (taken : List ℕ) (old : Pair) (e : QuoteEntry) {c : QuoteChange}
-    → quoteEffect phase p reference given taken old e ≡ QuoteEffect.Done c → TwoSides c
+pub two-sides : (phase : Phase) (p : Parameters) (reference : Price) (beyond : Bool) (given : ℕ) (taken : List ℕ) (old : Pair) (e : QuoteEntry) {c : QuoteChange}
+    → quoteEffect phase p reference beyond given taken old e ≡ QuoteEffect.Done c → TwoSides c
 unfolding quoteEffect
-two-sides phase p reference given taken old e {c} =
-    answered-cases (quoteRows phase p reference given (isShort (freedWords taken old)) e) QuoteEffect.Refused (QuoteEffect.Done done) (λ (f : QuoteEffect). f ≡ QuoteEffect.Done c → TwoSides c)
+two-sides phase p reference beyond given taken old e {c} =
+    answered-cases (quoteRows phase p reference beyond given (isShort (freedWords taken old)) e) QuoteEffect.Refused (QuoteEffect.Done done) (λ (f : QuoteEffect). f ≡ QuoteEffect.Done c → TwoSides c)
     (λ n h i k. absurd (let z : _≡_ {A = ℕ} 0 1 = cc in omega arith))
     (λ i k. subst TwoSides (ap (changeOr done) k) (record { bid-marked = refl; ask-marked = refl; one-member = refl; buys = refl; sells = refl }))
   where
@@ -81,9 +82,9 @@ two-sides phase p reference given taken old e {c} =
     changeOr d (QuoteEffect.Done c) = c
 
 -- ---- from what the code learns on the way
-module _ (phase : Phase) (p : Parameters) (reference : Price) (given : ℕ) (taken : List ℕ) (old : Pair) (e : QuoteEntry) where
+module _ (phase : Phase) (p : Parameters) (reference : Price) (beyond : Bool) (given : ℕ) (taken : List ℕ) (old : Pair) (e : QuoteEntry) where
   abbrev rows : List Check
-  rows = quoteRows phase p reference given (isShort (freedWords taken old)) e
+  rows = quoteRows phase p reference beyond given (isShort (freedWords taken old)) e
 
   -- where two places are left, the bid and the ask are at places
   pub fresh-places : isShort (freedWords taken old) ≡ false → (freshPair taken old .bid < places) × (freshPair taken old .ask < places)
@@ -93,12 +94,20 @@ module _ (phase : Phase) (p : Parameters) (reference : Price) (given : ℕ) (tak
       (not-false _ (no-second-free (freedWords taken old) ∙ h)) in
       (lowest-free-room (freedWords taken old) (λ i. omega (arith, ltb-false places (countTaken (freedWords taken old) + 2) h)), second)
 
-  pub quote-out-of-range : isQuote e ≡ false → QuoteEffect.Refused 1 ≡ quoteEffect phase p reference given taken old e
+  -- a quote that is done is not beyond
+  pub quote-not-beyond : {c : QuoteChange} → quoteEffect phase p reference beyond given taken old e ≡ QuoteEffect.Done c → beyond ≡ false
+  unfolding quoteEffect
+  quote-not-beyond {c} =
+      answered-cases rows QuoteEffect.Refused (QuoteEffect.Done (quoteChange given taken old (quoteFrom e))) (λ (f : QuoteEffect). f ≡ QuoteEffect.Done c → beyond ≡ false)
+      (λ n h i k. absurd (let z : _≡_ {A = ℕ} 0 1 = cc in omega arith))
+      (λ i k. clear rows tt i 16)
+
+  pub quote-out-of-range : isQuote e ≡ false → QuoteEffect.Refused 1 ≡ quoteEffect phase p reference beyond given taken old e
   unfolding quoteEffect
   quote-out-of-range h = answered-refused rows QuoteEffect.Refused _ (hits 1 _ (rw h)) (λ z. omega arith)
 
   module _ {q : Quote} (good : (isQuote e ≡ true) × (q ≡ quoteFrom e)) {fresh : Pair} {n : ℕ} {left : Bool} (is-fresh : fresh ≡ freshPair taken old) (is-left : left ≡ isPlace (fresh .ask))
-      (hit : n ≡ firstHit (quoteLater phase p reference given (not left) q)) where
+      (hit : n ≡ firstHit (quoteLater phase p reference beyond given (not left) q)) where
     quote-short : not left ≡ isShort (freedWords taken old)
     unfolding freshPair
     quote-short = rw (is-left, is-fresh) (no-second-free (freedWords taken old))
@@ -106,7 +115,7 @@ module _ (phase : Phase) (p : Parameters) (reference : Price) (given : ℕ) (tak
     quote-hit : n ≡ firstHit rows
     quote-hit = passes 1 _ (rw (good .0)) (rw (good .1, quote-short) at hit)
 
-    pub quote-turned-down : n ≢ 0 → QuoteEffect.Refused n ≡ quoteEffect phase p reference given taken old e
+    pub quote-turned-down : n ≢ 0 → QuoteEffect.Refused n ≡ quoteEffect phase p reference beyond given taken old e
     unfolding quoteEffect
     quote-turned-down h = answered-refused rows QuoteEffect.Refused _ quote-hit h
 
@@ -115,6 +124,6 @@ module _ (phase : Phase) (p : Parameters) (reference : Price) (given : ℕ) (tak
       numbers-left = ltb-false maxNumber (given + 2) (clear rows tt (sym z ∙ quote-hit) 9)
 
       pub quote-done : {bid ask : Values} → bid ≡ valuesOf (restingAs (given + 1) true (quoteOrder q Buy)) → ask ≡ valuesOf (restingAs (given + 2) true (quoteOrder q Sell))
-          → QuoteEffect.Done (record { given = given + 2; old = old; fresh = fresh; bid = bid; ask = ask }) ≡ quoteEffect phase p reference given taken old e
+          → QuoteEffect.Done (record { given = given + 2; old = old; fresh = fresh; bid = bid; ask = ask }) ≡ quoteEffect phase p reference beyond given taken old e
       unfolding quoteEffect
       quote-done b a = rw (b, a, is-fresh, good .1) (answered-done rows QuoteEffect.Refused (QuoteEffect.Done (quoteChange given taken old (quoteFrom e))) (sym z ∙ quote-hit))

@@ -37,23 +37,25 @@ pub enum Effect {
     Done(Change),
 }
 
-// Order: refusals 1, 2, 4, 5, 6, 7, 8, 9, 10. An accepted order takes the next number and the lowest free place.
+// Order: refusals 1, 2, 4, 5, 6, 7, 8, 16, 9, 10. An accepted order takes the next number and the lowest free place.
+// beyond: an entry by a thirty-third member, where the square is kept; false in a plain session (02 K5).
 pub fn order_effect(
     phase: Phase,
     parameters: Parameters,
     reference: Price,
+    beyond: bool,
     given: u32,
     taken: &[u64; WORDS],
     e: Entry,
 ) -> Effect
-    ensures { λ r. ⌜ r ≡ orderEffect phase parameters reference given (now (taken .entry)) e ⌝ }
+    ensures { λ r. ⌜ r ≡ orderEffect phase parameters reference beyond given (now (taken .entry)) e ⌝ }
 {
     let OrderMade::Good(o) = Order::new(e) else {
         return Effect::Refused(1);
     };
     let place = places::lowest_free(taken);
     let left = Place::holds(place);
-    let answer = refusals::order_refusal(phase, parameters, reference, given, !left, o);
+    let answer = refusals::order_refusal(phase, parameters, reference, beyond, given, !left, o);
     if answer != 0 {
         return Effect::Refused(answer);
     }

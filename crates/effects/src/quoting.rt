@@ -44,25 +44,26 @@ fn fresh_pair(taken: &[u64; WORDS], old: Pair) -> Pair
     Pair { bid, ask }
 }
 
-// Quote: refusals 1, 13, 2, 4, 5, 6, 7, 8, 9, 10, by where the sides of the member's old quote stand. The bid takes the first of two new
-// numbers and places, the ask the second.
+// Quote: refusals 1, 13, 2, 4, 5, 6, 7, 8, 16, 9, 10, by where the sides of the member's old quote stand. The bid takes the first of two new
+// numbers and places, the ask the second. beyond: an entry by a thirty-third member, where the square is kept; false in a plain session (02 K5).
 pub fn quote_effect(
     phase: Phase,
     parameters: Parameters,
     reference: Price,
+    beyond: bool,
     given: u32,
     taken: &[u64; WORDS],
     old: Pair,
     e: QuoteEntry,
 ) -> QuoteEffect
-    ensures { λ r. ⌜ r ≡ quoteEffect phase parameters reference given (now (taken .entry)) old e ⌝ }
+    ensures { λ r. ⌜ r ≡ quoteEffect phase parameters reference beyond given (now (taken .entry)) old e ⌝ }
 {
     let QuoteMade::Good(q) = Quote::new(e) else {
         return QuoteEffect::Refused(1);
     };
     let fresh = fresh_pair(taken, old);
     let left = Place::holds(fresh.ask);
-    let answer = refusals::quote_refusal(phase, parameters, reference, given, !left, q);
+    let answer = refusals::quote_refusal(phase, parameters, reference, beyond, given, !left, q);
     if answer != 0 {
         return QuoteEffect::Refused(answer);
     }

@@ -1,6 +1,6 @@
 -- A change stored in a session; and that what an order and a deletion change is what the calls leave.
 use Prim.Native.Nat.{ℕ, _+_, _/_}
-use mathlib.Core.Bool.{not}
+use mathlib.Core.Bool.{false, not}
 use mathlib.Core.Path.{_≡_}
 use lib.ListN.{set}
 use Rattle.terms.specs.Bounds.{places}
@@ -26,7 +26,7 @@ changed s c = withBook s (c .given) (written (s .book) (set (s .book .taken) (c 
 
 -- what an order and a deletion change in a session
 abbrev pub orderIn : Session → Entry → Effect
-orderIn s e = orderEffect (s .phase) (s .parameters) (controlReference s) (s .given) (s .book .taken) e
+orderIn s e = orderEffect (s .phase) (s .parameters) (controlReference s) false (s .given) (s .book .taken) e
 
 abbrev pub deleteIn : Session → ℕ → ℕ → Effect
 deleteIn s number member = deleteEffect (s .phase) (s .given) (s .book .taken) (placeIn (s .book .taken) (s .book .number) (s .book .member) number member 0 places) number member

@@ -34,9 +34,9 @@ started s x = answered (startChecks s x) (startRefused s) (startDone s x)
 abbrev pub controlReference : Session → Price
 controlReference s = s .parameters .reference
 
--- Order: 1, 2, 4, 5, 6, 7, 8, 9, 10.
+-- Order: 1, 2, 4, 5, 6, 7, 8, 9, 10; 16 is no refusal of a session without the square (02 K5).
 abbrev pub orderChecks : Session → Entry → List Check
-orderChecks s e = orderRows (s .phase) (s .parameters) (controlReference s) (s .given) (isFull (s .book .taken)) e
+orderChecks s e = orderRows (s .phase) (s .parameters) (controlReference s) false (s .given) (isFull (s .book .taken)) e
 
 -- an accepted order takes the next number and the lowest free place
 abbrev pub orderEntered : Session → Entry → Resting

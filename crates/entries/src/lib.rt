@@ -71,6 +71,7 @@ pub fn order(session: Session, e: Entry) -> Entered
         phase,
         parameters,
         parameters.reference,
+        false,
         session.given,
         &session.book.taken,
         e,

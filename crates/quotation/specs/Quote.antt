@@ -1,6 +1,6 @@
 -- Quote (02 K2): what the call returns and leaves, refusals included.
 use Prim.Native.Nat.{ℕ, _+_}
-use mathlib.Core.Bool.{true}
+use mathlib.Core.Bool.{true, false}
 use mathlib.Core.List.{List}
 use Rattle.terms.specs.Orders.{Resting, restingAs}
 use Rattle.terms.specs.Quotes.{quoteFrom, quoteOrder}
@@ -21,9 +21,9 @@ use Rattle.entries.specs.Entry.{controlReference}
 abbrev pub bookWithout : Session → QuoteEntry → Book
 bookWithout s e = withoutQuote (e .member) (s .book)
 
--- 1, 13, 2, 4, 5, 6, 7, 8, 9, 10; the room so freed counts
+-- 1, 13, 2, 4, 5, 6, 7, 8, 9, 10, the room so freed counts; 16 is no refusal of a session without the square (02 K5)
 abbrev pub quoteChecks : Session → QuoteEntry → List Check
-quoteChecks s e = quoteRows (s .phase) (s .parameters) (controlReference s) (s .given) (isShort (bookWithout s e .taken)) e
+quoteChecks s e = quoteRows (s .phase) (s .parameters) (controlReference s) false (s .given) (isShort (bookWithout s e .taken)) e
 
 -- the bid takes the first of two new numbers and places, the ask the second; each is marked as a side of a quote
 abbrev pub bidEntered : Session → QuoteEntry → Resting

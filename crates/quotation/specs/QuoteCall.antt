@@ -41,7 +41,7 @@ oldIn s member = record {
 
 -- what a quote changes in a session
 abbrev pub quoteIn : Session → QuoteEntry → QuoteEffect
-quoteIn s e = quoteEffect (s .phase) (s .parameters) (controlReference s) (s .given) (s .book .taken) (oldIn s (e .member)) e
+quoteIn s e = quoteEffect (s .phase) (s .parameters) (controlReference s) false (s .given) (s .book .taken) (oldIn s (e .member)) e
 
 -- what the call returns, by the effect
 abbrev pub quotedWith : Session → QuoteChange → Quoted
@@ -71,7 +71,7 @@ module _ (s : Session) (e : QuoteEntry) where
   -- where two places are left, the new sides stand at them
   pub bid-is-placed : isShort (bookWithout s e .taken) ≡ false → bidPlace s e < places
   unfolding freshPair
-  bid-is-placed h = rw words (fresh-places (s .phase) (s .parameters) (controlReference s) (s .given) (s .book .taken) old e (sym short ∙ h) .0)
+  bid-is-placed h = rw words (fresh-places (s .phase) (s .parameters) (controlReference s) false (s .given) (s .book .taken) old e (sym short ∙ h) .0)
 
   fresh-is : isShort (bookWithout s e .taken) ≡ false → freshPair (s .book .taken) old ≡ record { bid = bidPlace s e; ask = askPlace s e }
   unfolding freshPair stored
@@ -80,7 +80,7 @@ module _ (s : Session) (e : QuoteEntry) where
       (rw (lt-ltb (bidPlace s e) places (bid-is-placed h)))
 
   pub ask-is-placed : isShort (bookWithout s e .taken) ≡ false → askPlace s e < places
-  ask-is-placed h = rw (fresh-is h) at (fresh-places (s .phase) (s .parameters) (controlReference s) (s .given) (s .book .taken) old e (sym short ∙ h) .1)
+  ask-is-placed h = rw (fresh-is h) at (fresh-places (s .phase) (s .parameters) (controlReference s) false (s .given) (s .book .taken) old e (sym short ∙ h) .1)
 
   -- the columns then hold what the definition stores
   requoted-is : isShort (bookWithout s e .taken) ≡ false → quotedWith s (quoteChange (s .given) (s .book .taken) old (quoteFrom e)) ≡ quoteDone s e
@@ -89,7 +89,7 @@ module _ (s : Session) (e : QuoteEntry) where
       (rw (fresh-is h) (requoted-stored (s .book) old (record { bid = bidPlace s e; ask = askPlace s e }) (bidEntered s e) (askEntered s e) (bid-is-placed h) (ask-is-placed h)))
 
   -- by where the old sides stand
-  by-places : quotedBy s (quoteEffect (s .phase) (s .parameters) (controlReference s) (s .given) (s .book .taken) old e) ≡ quoted s e
+  by-places : quotedBy s (quoteEffect (s .phase) (s .parameters) (controlReference s) false (s .given) (s .book .taken) old e) ≡ quoted s e
   unfolding quoted quoteEffect
   by-places =
       answered-cases checks QuoteEffect.Refused (QuoteEffect.Done (quoteChange (s .given) (s .book .taken) old (quoteFrom e))) (λ (f : QuoteEffect). quotedBy s f ≡ quoted s e)
@@ -97,7 +97,7 @@ module _ (s : Session) (e : QuoteEntry) where
       (λ i. requoted-is (clear (quoteChecks s e) tt (i ∙ same) 10) ∙ answered-done (quoteChecks s e) (quoteRefused s) (quoteDone s e) (i ∙ same))
     where
       checks : List Check
-      checks = quoteRows (s .phase) (s .parameters) (controlReference s) (s .given) (isShort (freedWords (s .book .taken) old)) e
+      checks = quoteRows (s .phase) (s .parameters) (controlReference s) false (s .given) (isShort (freedWords (s .book .taken) old)) e
 
       same : firstHit checks ≡ firstHit (quoteChecks s e)
       same = rw short
@@ -112,17 +112,17 @@ freshOf (QuoteEffect.Refused n) = record { bid = 0; ask = 0 }
 freshOf (QuoteEffect.Done c) = c .fresh
 
 placed : (s : Session) (e : QuoteEntry) (before : Pair) {c : QuoteChange}
-    → quoteEffect (s .phase) (s .parameters) (controlReference s) (s .given) (s .book .taken) before e ≡ QuoteEffect.Done c → (c .fresh .bid < places) × (c .fresh .ask < places)
+    → quoteEffect (s .phase) (s .parameters) (controlReference s) false (s .given) (s .book .taken) before e ≡ QuoteEffect.Done c → (c .fresh .bid < places) × (c .fresh .ask < places)
 unfolding quoteEffect
 placed s e before {c} =
     answered-cases checks QuoteEffect.Refused (QuoteEffect.Done (quoteChange (s .given) (s .book .taken) before (quoteFrom e)))
     (λ (f : QuoteEffect). f ≡ QuoteEffect.Done c → (c .fresh .bid < places) × (c .fresh .ask < places))
     (λ n h i k. absurd (let z : _≡_ {A = ℕ} 0 1 = cc in omega arith))
     (λ i k. let same : freshPair (s .book .taken) before ≡ c .fresh = ap freshOf k in
-    rw (← same) (fresh-places (s .phase) (s .parameters) (controlReference s) (s .given) (s .book .taken) before e (clear checks tt i 10)))
+    rw (← same) (fresh-places (s .phase) (s .parameters) (controlReference s) false (s .given) (s .book .taken) before e (clear checks tt i 10)))
   where
     checks : List Check
-    checks = quoteRows (s .phase) (s .parameters) (controlReference s) (s .given) (isShort (freedWords (s .book .taken) before)) e
+    checks = quoteRows (s .phase) (s .parameters) (controlReference s) false (s .given) (isShort (freedWords (s .book .taken) before)) e
 
 pub quote-placed : (s : Session) (e : QuoteEntry) {c : QuoteChange} → quoteIn s e ≡ QuoteEffect.Done c → (c .fresh .bid < places) × (c .fresh .ask < places)
 quote-placed s e = placed s e (oldIn s (e .member))

@@ -91,6 +91,7 @@ pub fn quote(session: Session, e: QuoteEntry) -> Quoted
         phase,
         parameters,
         parameters.reference,
+        false,
         session.given,
         &session.book.taken,
         Pair { bid, ask },

@@ -22,30 +22,32 @@ use Rattle.refusals.specs.Checks.{check, Check}
 abbrev pub startRows : Phase → Start → List Check
 startRows phase s = check 1 (not (isStart s)) ∷ check 3 (hasStarted phase) ∷ []
 
--- Order: 1, 2, 4, 5, 6, 7, 8, 9, 10; by the reference price of the controls, the last number given and whether all 512 places are taken.
-abbrev pub orderLater : Phase → Parameters → Price → ℕ → Bool → Order → List Check
-orderLater phase p reference given full o =
+-- Order: 1, 2, 4, 5, 6, 7, 8, 16, 9, 10; by the reference price of the controls, the last number given and whether all 512 places are taken.
+-- beyond: an entry by a thirty-third member, where the square is kept; false in a plain session (02 K5).
+abbrev pub orderLater : Phase → Parameters → Price → Bool → ℕ → Bool → Order → List Check
+orderLater phase p reference beyond given full o =
     check 2 (not (hasStarted phase))
     ∷ check 4 (not (allowsOrder phase (o .validity)))
     ∷ check 5 (offStep (p .step) (o .limit))
     ∷ check 6 (reachesCollar reference (p .factor) (o .limit))
     ∷ check 7 (reachesMost (p .most) (o .quantity) (o .limit))
     ∷ check 8 (reachesMostAtReference (p .most) (o .quantity) reference)
+    ∷ check 16 beyond
     ∷ check 9 (leb maxNumber given)
     ∷ check 10 full
     ∷ []
 
-abbrev pub orderRows : Phase → Parameters → Price → ℕ → Bool → Entry → List Check
-orderRows phase p reference given full e = check 1 (not (isEntry e)) ∷ orderLater phase p reference given full (orderFrom e)
+abbrev pub orderRows : Phase → Parameters → Price → Bool → ℕ → Bool → Entry → List Check
+orderRows phase p reference beyond given full e = check 1 (not (isEntry e)) ∷ orderLater phase p reference beyond given full (orderFrom e)
 
 -- one of a quote's two orders hits: the bid is looked at first
 abbrev pub eitherSide : (Order → Bool) → Quote → Bool
 eitherSide hit q = hit (quoteOrder q Buy) || hit (quoteOrder q Sell)
 
--- Quote (02 K2): 1, 13, 2, 4, 5, 6, 7, 8, 9, 10, those of a day order on the bid and then on the ask; by the reference price of the controls, the
--- last number given and whether fewer than two places are free once the member's old quote is gone.
-abbrev pub quoteLater : Phase → Parameters → Price → ℕ → Bool → Quote → List Check
-quoteLater phase p reference given short q =
+-- Quote (02 K2): 1, 13, 2, 4, 5, 6, 7, 8, 16, 9, 10, those of a day order on the bid and then on the ask; by the reference price of the controls,
+-- the last number given and whether fewer than two places are free once the member's old quote is gone. beyond as for an order (02 K5).
+abbrev pub quoteLater : Phase → Parameters → Price → Bool → ℕ → Bool → Quote → List Check
+quoteLater phase p reference beyond given short q =
     check 13 (isCrossed q)
     ∷ check 2 (not (hasStarted phase))
     ∷ check 4 (not (allowsOrder phase Validity.Day))
@@ -53,12 +55,13 @@ quoteLater phase p reference given short q =
     ∷ check 6 (eitherSide (λ o. reachesCollar reference (p .factor) (o .limit)) q)
     ∷ check 7 (eitherSide (λ o. reachesMost (p .most) (o .quantity) (o .limit)) q)
     ∷ check 8 (eitherSide (λ o. reachesMostAtReference (p .most) (o .quantity) reference) q)
+    ∷ check 16 beyond
     ∷ check 9 (ltb maxNumber (given + 2))
     ∷ check 10 short
     ∷ []
 
-abbrev pub quoteRows : Phase → Parameters → Price → ℕ → Bool → QuoteEntry → List Check
-quoteRows phase p reference given short e = check 1 (not (isQuote e)) ∷ quoteLater phase p reference given short (quoteFrom e)
+abbrev pub quoteRows : Phase → Parameters → Price → Bool → ℕ → Bool → QuoteEntry → List Check
+quoteRows phase p reference beyond given short e = check 1 (not (isQuote e)) ∷ quoteLater phase p reference beyond given short (quoteFrom e)
 
 -- Delete: 1, 2, 11; by whether no resting order has this number and this member.
 abbrev pub deleteLater : Phase → Bool → List Check

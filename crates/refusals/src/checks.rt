@@ -21,15 +21,17 @@ ghost use Rattle.refusals.specs.Checks.{firstHit};
 ghost use Rattle.refusals.specs.Rows.{orderLater, deleteLater, theoreticalLater, auctionLater, rankedLater};
 
 // Which refusal an order gets, by the reference price of the controls, the last number given and whether all places are taken.
+// beyond: an entry by a thirty-third member, where the square is kept; false in a plain session (02 K5).
 pub fn order_refusal(
     phase: Phase,
     p: Parameters,
     reference: Price,
+    beyond: bool,
     given: u32,
     full: bool,
     o: Order,
 ) -> u8
-    ensures { λ r. ⌜ r ≡ firstHit (orderLater phase p reference given full o) ⌝ }
+    ensures { λ r. ⌜ r ≡ firstHit (orderLater phase p reference beyond given full o) ⌝ }
 {
     let limit = o.limit;
     let validity = o.validity;
@@ -50,6 +52,9 @@ pub fn order_refusal(
     }
     if reaches_most_at_reference(p.most, o.quantity, reference) {
         return 8;
+    }
+    if beyond {
+        return 16;
     }
     if Number::MAX <= given {
         return 9;

@@ -81,16 +81,17 @@ fn either_reaches_most_at_reference(most: OrderValue, reference: Price, q: Quote
 }
 
 // Which refusal a quote gets, by the reference price of the controls, the last number given and whether fewer than two places are free
-// once the member's old quote is gone.
+// once the member's old quote is gone. beyond: an entry by a thirty-third member, where the square is kept; false in a plain session (02 K5).
 pub fn quote_refusal(
     phase: Phase,
     p: Parameters,
     reference: Price,
+    beyond: bool,
     given: u32,
     short: bool,
     q: Quote,
 ) -> u8
-    ensures { λ r. ⌜ r ≡ firstHit (quoteLater phase p reference given short q) ⌝ }
+    ensures { λ r. ⌜ r ≡ firstHit (quoteLater phase p reference beyond given short q) ⌝ }
 {
     if is_crossed(q) {
         return 13;
@@ -112,6 +113,9 @@ pub fn quote_refusal(
     }
     if either_reaches_most_at_reference(p.most, reference, q) {
         return 8;
+    }
+    if beyond {
+        return 16;
     }
     if Number::MAX - QUOTE_NUMBERS < given {
         return 9;

@@ -1,6 +1,7 @@
 -- What a record does to the session that is told: an answer with nothing or with a change at a place, or a call. Its trades are few, its lines have room,
 -- the session after it is sound; and what its writing promises.
 use Prim.Native.Nat.{ℕ, zero, suc, _+_, _*_, _≤_, _<_}
+use mathlib.Core.Bool.{false}
 use mathlib.Core.Path.{_≡_, refl, sym, ap, _∙_}
 use mathlib.Core.List.{List, [], append-nil}
 use native.Mathlib.Omega.{arith}
@@ -118,10 +119,10 @@ pub record QuotesKnown (quoted members sides bids asks : List ℕ) : Type 0 wher
 
 abbrev pub doingOf : Record → Phase → Parameters → Price → ℕ → List ℕ → List ℕ → List ℕ → List ℕ → List ℕ → Doing
 doingOf (Record.Start p) phase parameters reference given taken numbers members quoted sides = Doing.Start p
-doingOf (Record.Order e) phase parameters reference given taken numbers members quoted sides = orderDoing (orderEffect phase parameters reference given taken e)
+doingOf (Record.Order e) phase parameters reference given taken numbers members quoted sides = orderDoing (orderEffect phase parameters reference false given taken e)
 doingOf (Record.Delete d) phase parameters reference given taken numbers members quoted sides = deleteDoing (deleteEffect phase given taken (placeIn taken numbers members (d .number) (d .member) 0 places) (d .number) (d .member))
 doingOf (Record.Auction which) phase parameters reference given taken numbers members quoted sides = Doing.Auction which
-doingOf (Record.Quote e) phase parameters reference given taken numbers members quoted sides = quoteDoing (quoteEffect phase parameters reference given taken (oldPair quoted members sides (e .member)) e)
+doingOf (Record.Quote e) phase parameters reference given taken numbers members quoted sides = quoteDoing (quoteEffect phase parameters reference false given taken (oldPair quoted members sides (e .member)) e)
 
 abbrev pub doingIn : Session → Record → Doing
 doingIn s r = doingOf r (s .phase) (s .parameters) (controlReference s) (s .given) (s .book .taken) (s .book .number) (s .book .member) (s .book .quoted) (s .book .side)
@@ -141,7 +142,7 @@ Does s r (Doing.Auction which) = r ≡ Record.Auction which
 -- what a record does is what its call answers and leaves
 pub does : (s : Session) → Sound s → (r : Record) → Does s r (doingIn s r)
 does s sound (Record.Start p) = refl
-does s sound (Record.Order e) = go (orderIn s e) (entered-by s e) (λ c h. (order-place (s .phase) (s .parameters) (controlReference s) (s .given) (s .book .taken) e h, order-plain (s .phase) (s .parameters) (controlReference s) (s .given) (s .book .taken) e h)) where
+does s sound (Record.Order e) = go (orderIn s e) (entered-by s e) (λ c h. (order-place (s .phase) (s .parameters) (controlReference s) false (s .given) (s .book .taken) e h, order-plain (s .phase) (s .parameters) (controlReference s) false (s .given) (s .book .taken) e h)) where
   go : (f : Effect) → enteredBy s f ≡ entered s e → ((c : Change) → f ≡ Effect.Done c → (c .place < places) × (c .values .quoted ≡ 0)) → Does s (Record.Order e) (orderDoing f)
   go (Effect.Refused n) h p = ap orderStep h
   go (Effect.Done c) h p = (ap orderStep h, p c refl .0, p c refl .1)
@@ -150,7 +151,7 @@ does s sound (Record.Delete d) = go (deleteIn s (d .number) (d .member)) (delete
   go (Effect.Refused n) h p = ap deleteStep h
   go (Effect.Done c) h p = (ap deleteStep h, p c refl .0, p c refl .1)
 does s sound (Record.Auction which) = refl
-does s sound (Record.Quote e) = go (quoteIn s e) (quoted-by s e sound) (λ c h. (quote-placed s e h, two-sides (s .phase) (s .parameters) (controlReference s) (s .given) (s .book .taken) (oldIn s (e .member)) e h)) where
+does s sound (Record.Quote e) = go (quoteIn s e) (quoted-by s e sound) (λ c h. (quote-placed s e h, two-sides (s .phase) (s .parameters) (controlReference s) false (s .given) (s .book .taken) (oldIn s (e .member)) e h)) where
   go : (f : QuoteEffect) → quotedBy s f ≡ quoted s e → ((c : QuoteChange) → f ≡ QuoteEffect.Done c → ((c .fresh .bid < places) × (c .fresh .ask < places)) × TwoSides c) → Does s (Record.Quote e) (quoteDoing f)
   go (QuoteEffect.Refused n) h p = ap quoteStep h
   go (QuoteEffect.Done c) h p = (ap quoteStep h, p c refl .0, p c refl .1)

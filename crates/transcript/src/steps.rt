@@ -105,6 +105,7 @@ pub(crate) fn doing_of<'a>(
             phase,
             parameters,
             reference,
+            false,
             given,
             taken,
             e,
@@ -116,7 +117,7 @@ pub(crate) fn doing_of<'a>(
         Record::Auction(which) => Doing::Auction(which),
         Record::Quote(e) => {
             let old = old_pair(quoted, members, sides, bids, asks, e.member);
-            quote_doing(quote_effect(phase, parameters, reference, given, taken, old, e))
+            quote_doing(quote_effect(phase, parameters, reference, false, given, taken, old, e))
         }
     }
 }

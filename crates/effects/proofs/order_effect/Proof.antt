@@ -27,7 +27,7 @@ enum-told c = search needs
 returns : tie.Need-returns
 returns c =
     let a = c .before .before .before .args in
-    order-out-of-range (a .phase) (a .parameters) (a .reference) (a .given) (a .taken .now) (a .e) (order-refused (a .e) (sym (c .enum-told .given .1) ∙ c .before .before .new .ensures))
+    order-out-of-range (a .phase) (a .parameters) (a .reference) (a .beyond) (a .given) (a .taken .now) (a .e) (order-refused (a .e) (sym (c .enum-told .given .1) ∙ c .before .before .new .ensures))
 
 lowest-free-requires : tie.Need-lowest-free-requires
 lowest-free-requires c κs = search needs
@@ -43,14 +43,14 @@ returns-2 c =
     let r = c .before in
     let k = r .before .before .before in
     let a = start k .args in
-    order-turned-down (a .phase) (a .parameters) (a .reference) (a .given) (a .taken .now) (a .e) (good k) (r .before .before .lowest-free .ensures) (r .before .holds .ensures) (r .order-refusal .ensures) (c .if1 .taken)
+    order-turned-down (a .phase) (a .parameters) (a .reference) (a .beyond) (a .given) (a .taken .now) (a .e) (good k) (r .before .before .lowest-free .ensures) (r .before .holds .ensures) (r .order-refusal .ensures) (c .if1 .taken)
 
 add-number : tie.Need-add-number
 add-number c =
     let r = c .before in
     let k = r .before .before .before in
     let a = start k .args in
-    omega (arith, number-left (a .phase) (a .parameters) (a .reference) (a .given) (a .taken .now) (a .e) (good k) (r .before .before .lowest-free .ensures) (r .before .holds .ensures) (r .order-refusal .ensures) (c .if1 .left))
+    omega (arith, number-left (a .phase) (a .parameters) (a .reference) (a .beyond) (a .given) (a .taken .now) (a .e) (good k) (r .before .before .lowest-free .ensures) (r .before .holds .ensures) (r .order-refusal .ensures) (c .if1 .left))
 
 mul-with-bit : tie.Need-mul-with-bit
 mul-with-bit c = search needs
@@ -60,7 +60,7 @@ element-copy-out-with-bit c =
     let r = c .before in
     let k = r .before .before .before in
     let a = start k .args in
-    omega (arith, place-left (a .phase) (a .parameters) (a .reference) (a .given) (a .taken .now) (a .e) (good k) (r .before .before .lowest-free .ensures) (r .before .holds .ensures) (r .order-refusal .ensures) (c .if1 .left))
+    omega (arith, place-left (a .phase) (a .parameters) (a .reference) (a .beyond) (a .given) (a .taken .now) (a .e) (good k) (r .before .before .lowest-free .ensures) (r .before .holds .ensures) (r .order-refusal .ensures) (c .if1 .left))
 
 with-bit-requires : tie.Need-with-bit-requires
 with-bit-requires c κs = search needs
@@ -74,7 +74,7 @@ returns-3 c =
     let r = i .before in
     let k = r .before .before .before in
     let a = start k .args in
-    order-done (a .phase) (a .parameters) (a .reference) (a .given) (a .taken .now) (a .e) (good k) (r .before .before .lowest-free .ensures) (r .before .holds .ensures) (r .order-refusal .ensures) (i .if1 .left)
+    order-done (a .phase) (a .parameters) (a .reference) (a .beyond) (a .given) (a .taken .now) (a .e) (good k) (r .before .before .lowest-free .ensures) (r .before .holds .ensures) (r .order-refusal .ensures) (i .if1 .left)
     (c .before .with-bit .ensures) (c .values-of .ensures)
 
 pub order-effect-spec : {M : Type 1} → statement M

@@ -1,6 +1,7 @@
 use Rattle.effects.specs.Effects.{order-place}
 use Rattle.entries.specs.Entry.{controlReference}
 use Rattle.entries.specs.Changes.{orderIn, enteredBy, entered-by}
+use mathlib.Core.Bool.{false}
 use mathlib.Core.Path.{_≡_, sym, ap, _∙_}
 use borrow.Author.Needs.{needs}
 use Rattle.entries.proofs.order.Statement.{statement}
@@ -27,7 +28,7 @@ changed-requires c κs =
     let e = c .before .before .before in
     let a = start e .args in
     let s = a .t1 in
-    order-place (s .phase) (s .parameters) (controlReference s) (s .given) (s .book .taken) (a .e) (sym (effect-in e) ∙ c .before .effect2 .given .1)
+    order-place (s .phase) (s .parameters) (controlReference s) false (s .given) (s .book .taken) (a .e) (sym (effect-in e) ∙ c .before .effect2 .given .1)
 
 returns : tie.Need-returns
 returns c =

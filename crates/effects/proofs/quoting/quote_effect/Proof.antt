@@ -29,7 +29,7 @@ enum-told c = search needs
 returns : tie.Need-returns
 returns c =
     let a = c .before .before .before .args in
-    quote-out-of-range (a .phase) (a .parameters) (a .reference) (a .given) (a .taken .now) (a .old) (a .e) (quote-refused (a .e) (sym (c .enum-told .given .1) ∙ c .before .before .new .ensures))
+    quote-out-of-range (a .phase) (a .parameters) (a .reference) (a .beyond) (a .given) (a .taken .now) (a .old) (a .e) (quote-refused (a .e) (sym (c .enum-told .given .1) ∙ c .before .before .new .ensures))
 
 fresh-pair-requires : tie.Need-fresh-pair-requires
 fresh-pair-requires c κs = search needs
@@ -45,7 +45,7 @@ returns-2 c =
     let r = c .before in
     let k = r .before .before .before in
     let a = start k .args in
-    quote-turned-down (a .phase) (a .parameters) (a .reference) (a .given) (a .taken .now) (a .old) (a .e) (good k) (r .before .before .fresh-pair .ensures) (r .before .holds .ensures) (r .quote-refusal .ensures) (c .if1 .taken)
+    quote-turned-down (a .phase) (a .parameters) (a .reference) (a .beyond) (a .given) (a .taken .now) (a .old) (a .e) (good k) (r .before .before .fresh-pair .ensures) (r .before .holds .ensures) (r .quote-refusal .ensures) (c .if1 .taken)
 
 -- once nothing hits
 left : (i : tie.Else1) → let a = start (i .before .before .before .before) .args in a .given + 2 ≤ maxNumber
@@ -53,7 +53,7 @@ left i =
     let r = i .before in
     let k = r .before .before .before in
     let a = start k .args in
-    numbers-left (a .phase) (a .parameters) (a .reference) (a .given) (a .taken .now) (a .old) (a .e) (good k) (r .before .before .fresh-pair .ensures) (r .before .holds .ensures) (r .quote-refusal .ensures) (i .if1 .left)
+    numbers-left (a .phase) (a .parameters) (a .reference) (a .beyond) (a .given) (a .taken .now) (a .old) (a .e) (good k) (r .before .before .fresh-pair .ensures) (r .before .holds .ensures) (r .quote-refusal .ensures) (i .if1 .left)
 
 add-values-of : tie.Need-add-values-of
 add-values-of c = omega (arith, left c)
@@ -73,8 +73,8 @@ ask-order-requires c κs = search needs
 values-of-requires-2 : tie.Need-values-of-requires-2
 values-of-requires-2 c κs = search needs
 
-add-t16 : tie.Need-add-t16
-add-t16 c = omega (arith, left (c .before .before .before .before))
+add-t17 : tie.Need-add-t17
+add-t17 c = omega (arith, left (c .before .before .before .before))
 
 returns-3 : tie.Need-returns-3
 returns-3 c =
@@ -82,7 +82,7 @@ returns-3 c =
     let r = i .before in
     let k = r .before .before .before in
     let a = start k .args in
-    quote-done (a .phase) (a .parameters) (a .reference) (a .given) (a .taken .now) (a .old) (a .e) (good k) (r .before .before .fresh-pair .ensures) (r .before .holds .ensures) (r .quote-refusal .ensures) (i .if1 .left) (rw (c .before .before .before .bid-order .ensures) at (c .before .before .values-of .ensures))
+    quote-done (a .phase) (a .parameters) (a .reference) (a .beyond) (a .given) (a .taken .now) (a .old) (a .e) (good k) (r .before .before .fresh-pair .ensures) (r .before .holds .ensures) (r .quote-refusal .ensures) (i .if1 .left) (rw (c .before .before .before .bid-order .ensures) at (c .before .before .values-of .ensures))
     (rw (c .before .ask-order .ensures) at (c .values-of2 .ensures))
 
 pub quote-effect-spec : {M : Type 1} → statement M
@@ -103,5 +103,5 @@ quote-effect-spec =
     add-values-of-2
     ask-order-requires
     values-of-requires-2
-    add-t16
+    add-t17
     returns-3)

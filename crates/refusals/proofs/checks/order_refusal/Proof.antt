@@ -12,7 +12,7 @@ use Rattle.refusals.proofs.checks.order_refusal.Statement.{statement}
 use Rattle.refusals.proofs.checks.order_refusal.Tie as tie
 
 abbrev rows : tie.Start → List Check
-rows c = let a = c .args in orderLater (a .phase) (a .p) (a .reference) (a .given) (a .full) (a .o)
+rows c = let a = c .args in orderLater (a .phase) (a .p) (a .reference) (a .beyond) (a .given) (a .full) (a .o)
 
 -- the checks from the n-th on answer for all
 abbrev Answers : ℕ → tie.Start → Type 0
@@ -37,7 +37,10 @@ past-6 : (c : tie.Else6) → Answers 6 (c .before .before .before .before .befor
 past-6 c r e = past-5 (c .before .before) _ (passes 8 _ (sym (c .before .reaches-most-at-reference .ensures) ∙ c .if6 .left) e)
 
 past-7 : (c : tie.Else7) → Answers 7 (c .before .before .before .before .before .before .before .before .before .before .before .before .before)
-past-7 c r e = past-6 (c .before) _ (passes 9 _ (lt-leb _ _ (c .if7 .left)) e)
+past-7 c r e = past-6 (c .before) _ (passes 16 _ (c .if7 .left) e)
+
+past-8 : (c : tie.Else8) → Answers 8 (c .before .before .before .before .before .before .before .before .before .before .before .before .before .before)
+past-8 c r e = past-7 (c .before) _ (passes 9 _ (lt-leb _ _ (c .if8 .left)) e)
 
 has-started-requires : tie.Need-has-started-requires
 has-started-requires c κs = search needs
@@ -76,13 +79,16 @@ returns-6 : tie.Need-returns-6
 returns-6 c = past-5 (c .before .before) _ (hits 8 _ (sym (c .before .reaches-most-at-reference .ensures) ∙ c .if6 .taken))
 
 returns-7 : tie.Need-returns-7
-returns-7 c = past-6 (c .before) _ (hits 9 _ (le-leb _ _ (c .if7 .taken)))
+returns-7 c = past-6 (c .before) _ (hits 16 _ (c .if7 .taken))
 
 returns-8 : tie.Need-returns-8
-returns-8 c = past-7 (c .before) _ (hits 10 _ (c .if8 .taken))
+returns-8 c = past-7 (c .before) _ (hits 9 _ (le-leb _ _ (c .if8 .taken)))
 
 returns-9 : tie.Need-returns-9
-returns-9 c = past-7 (c .before) 0 (passes-last 10 (c .if8 .left))
+returns-9 c = past-8 (c .before) _ (hits 10 _ (c .if9 .taken))
+
+returns-10 : tie.Need-returns-10
+returns-10 c = past-8 (c .before) 0 (passes-last 10 (c .if9 .left))
 
 pub order-refusal-spec : {M : Type 1} → statement M
 order-refusal-spec =
@@ -102,4 +108,5 @@ order-refusal-spec =
     returns-6
     returns-7
     returns-8
-    returns-9)
+    returns-9
+    returns-10)

@@ -15,7 +15,7 @@ use Rattle.refusals.proofs.quote_checks.quote_refusal.Statement.{statem
 use Rattle.refusals.proofs.quote_checks.quote_refusal.Tie as tie
 
 abbrev rows : tie.Start → List Check
-rows c = let a = c .args in quoteLater (a .phase) (a .p) (a .reference) (a .given) (a .short) (a .q)
+rows c = let a = c .args in quoteLater (a .phase) (a .p) (a .reference) (a .beyond) (a .given) (a .short) (a .q)
 
 -- the checks from the n-th on answer for all
 abbrev Answers : ℕ → tie.Start → Type 0
@@ -42,6 +42,9 @@ past-6 c r e = past-5 (c .before .before) _ (passes 7 _ (sym (c .before .either-
 past-7 : (c : tie.Else7) → Answers 7 (c .before .before .before .before .before .before .before .before .before .before .before .before .before .before)
 past-7 c r e = past-6 (c .before .before) _ (passes 8 _ (sym (c .before .either-reaches-most-at-reference .ensures) ∙ c .if7 .left) e)
 
+past-8 : (c : tie.Else8) → Answers 8 (c .before .before .before .before .before .before .before .before .before .before .before .before .before .before .before)
+past-8 c r e = past-7 (c .before) _ (passes 16 _ (c .if8 .left) e)
+
 -- whether two numbers are left, as the code tests it
 spent : (given : ℕ) → 999_998 < given → ltb maxNumber (given + 2) ≡ true
 spent given h = lt-ltb maxNumber (given + 2) (omega arith)
@@ -49,8 +52,8 @@ spent given h = lt-ltb maxNumber (given + 2) (omega arith)
 enough : (given : ℕ) → given ≤ 999_998 → ltb maxNumber (given + 2) ≡ false
 enough given h = le-ltb maxNumber (given + 2) (omega arith)
 
-past-8 : (c : tie.Else8) → Answers 8 (c .before .before .before .before .before .before .before .before .before .before .before .before .before .before .before)
-past-8 c r e = past-7 (c .before) _ (passes 9 _ (enough _ (c .if8 .left)) e)
+past-9 : (c : tie.Else9) → Answers 9 (c .before .before .before .before .before .before .before .before .before .before .before .before .before .before .before .before)
+past-9 c r e = past-8 (c .before) _ (passes 9 _ (enough _ (c .if9 .left)) e)
 
 is-crossed-requires : tie.Need-is-crossed-requires
 is-crossed-requires c κs = search needs
@@ -94,17 +97,20 @@ either-reaches-most-at-reference-requires c κs = search needs
 returns-7 : tie.Need-returns-7
 returns-7 c = past-6 (c .before .before) _ (hits 8 _ (sym (c .before .either-reaches-most-at-reference .ensures) ∙ c .if7 .taken))
 
-sub-if8 : tie.Need-sub-if8
-sub-if8 c = search needs
-
 returns-8 : tie.Need-returns-8
-returns-8 c = past-7 (c .before) _ (hits 9 _ (spent _ (c .if8 .taken)))
+returns-8 c = past-7 (c .before) _ (hits 16 _ (c .if8 .taken))
+
+sub-if9 : tie.Need-sub-if9
+sub-if9 c = search needs
 
 returns-9 : tie.Need-returns-9
-returns-9 c = past-8 (c .before) _ (hits 10 _ (c .if9 .taken))
+returns-9 c = past-8 (c .before) _ (hits 9 _ (spent _ (c .if9 .taken)))
 
 returns-10 : tie.Need-returns-10
-returns-10 c = past-8 (c .before) 0 (passes-last 10 (c .if9 .left))
+returns-10 c = past-9 (c .before) _ (hits 10 _ (c .if10 .taken))
+
+returns-11 : tie.Need-returns-11
+returns-11 c = past-9 (c .before) 0 (passes-last 10 (c .if10 .left))
 
 pub quote-refusal-spec : {M : Type 1} → statement M
 quote-refusal-spec =
@@ -124,7 +130,8 @@ quote-refusal-spec =
     returns-6
     either-reaches-most-at-reference-requires
     returns-7
-    sub-if8
     returns-8
+    sub-if9
     returns-9
-    returns-10)
+    returns-10
+    returns-11)
