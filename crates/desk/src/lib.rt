@@ -1,5 +1,9 @@
 // A session that keeps the square (02 K5): a type of its own around a session, with the session's calls. It goes into a call by value and comes back by
 // value; its auction stands in `desk_auction`.
+mod entering;
+
+pub use entering::order;
+pub use entering::quote;
 use session::Session;
 use squares::CELLS;
 use squares::MEMBERS;
@@ -8,7 +12,7 @@ use terms::Place;
 use terms::Start;
 ghost use mathlib.Core.Path.{_≡_};
 ghost use Rattle.squares.specs.Square.{squareOf};
-ghost use Rattle.desk.specs.Desk.{freshDesk, withSession};
+ghost use Rattle.desk.specs.Desk.{freshDesk};
 ghost use Rattle.desk.specs.Calls.{started as Calls·started, deleted as Calls·deleted};
 ghost use Rattle.desk.specs.Sound.{SoundDesk};
 
@@ -25,6 +29,19 @@ pub struct Desk {
 
 pub struct Started {
     pub answer: u8,
+    pub desk: Desk,
+}
+
+pub struct Entered {
+    pub answer: u8,
+    pub number: u32,
+    pub desk: Desk,
+}
+
+pub struct Quoted {
+    pub answer: u8,
+    pub bid: u32,
+    pub ask: u32,
     pub desk: Desk,
 }
 

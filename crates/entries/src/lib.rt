@@ -2,7 +2,7 @@
 // session after it (A1).
 mod changes;
 
-use changes::changed;
+pub use changes::changed;
 use controls::Phase;
 use effects::Effect;
 use effects::delete_effect;

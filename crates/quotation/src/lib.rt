@@ -25,7 +25,7 @@ pub struct Quoted {
 }
 
 // A session with a quote in place of the member's old one, by value; a loop that holds a session makes the same stores in its own.
-fn requoted(mut session: Session, c: QuoteChange) -> Session
+pub fn requoted(mut session: Session, c: QuoteChange) -> Session
     requires { ⌜ (c .fresh .bid < places) × (c .fresh .ask < places) ⌝ }
     ensures { λ r. ⌜ r ≡ requotedIn session c ⌝ }
 {
