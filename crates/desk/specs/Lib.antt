@@ -5,3 +5,5 @@ pub mod Desk
 pub mod Calls
 -- its property
 pub mod Sound
+-- as the code computes it
+pub mod EntryCalls

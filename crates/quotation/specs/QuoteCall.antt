@@ -1,7 +1,7 @@
 -- A quote as the code computes it: from where the old sides stand, the new ones put in their stead, column by column.
 use Prim.Native.Nat.{ℕ, _+_, _<_}
-use mathlib.Core.Bool.{true, false}
-use mathlib.Core.Path.{_≡_, sym, ap, subst, _∙_}
+use mathlib.Core.Bool.{Bool, true, false}
+use mathlib.Core.Path.{_≡_, refl, sym, ap, subst, _∙_}
 use mathlib.Core.List.{List}
 use native.Mathlib.Omega.{arith}
 use borrow.Author.Tests.{lt-ltb}
@@ -16,7 +16,7 @@ use Rattle.quotes.specs.declared.{Pair.Pair}
 use Rattle.book.specs.Columns.{stored}
 use Rattle.quotes.specs.Quotes.{quotePlaces, withoutPair, quotePlaceIn, requotedBook}
 use Rattle.quotes.specs.Without.{quote-place-in, without-taken, requoted-stored}
-use Rattle.refusals.specs.Checks.{Check, firstHit, answered-refused, answered-done, answered-cases}
+use Rattle.refusals.specs.Checks.{Check, firstHit, answered, answered-refused, answered-done, answered-cases}
 use Rattle.refusals.specs.Rows.{quoteRows}
 use Rattle.refusals.specs.Exactly.{clear}
 use Rattle.effects.specs.declared.quoting.{QuoteChange.QuoteChange, QuoteEffect.QuoteEffect}
@@ -52,7 +52,7 @@ quotedBy s (QuoteEffect.Refused n) = quoteRefused s n
 quotedBy s (QuoteEffect.Done c) = quotedWith s c
 
 -- the columns say where they stand
-old-places : (s : Session) → Sound s → (member : ℕ) → oldIn s member ≡ quotePlaces member (s .book)
+pub old-places : (s : Session) → Sound s → (member : ℕ) → oldIn s member ≡ quotePlaces member (s .book)
 old-places s sound member =
     let at = quote-place-in (legalPrice s) (s .given) (s .book) (sound .book-sound) member in
     rw (at Buy, at Sell)
@@ -73,7 +73,7 @@ module _ (s : Session) (e : QuoteEntry) where
   unfolding freshPair
   bid-is-placed h = rw words (fresh-places (s .phase) (s .parameters) (controlReference s) false (s .given) (s .book .taken) old e (sym short ∙ h) .0)
 
-  fresh-is : isShort (bookWithout s e .taken) ≡ false → freshPair (s .book .taken) old ≡ record { bid = bidPlace s e; ask = askPlace s e }
+  pub fresh-is : isShort (bookWithout s e .taken) ≡ false → freshPair (s .book .taken) old ≡ record { bid = bidPlace s e; ask = askPlace s e }
   unfolding freshPair stored
   fresh-is h =
       subst (λ (ws : List ℕ). _≡_ {A = Pair} (record { bid = lowestFree ws; ask = lowestFree (markedAt ws (lowestFree ws)) }) (record { bid = bidPlace s e; ask = askPlace s e })) words
@@ -83,46 +83,50 @@ module _ (s : Session) (e : QuoteEntry) where
   ask-is-placed h = rw (fresh-is h) at (fresh-places (s .phase) (s .parameters) (controlReference s) false (s .given) (s .book .taken) old e (sym short ∙ h) .1)
 
   -- the columns then hold what the definition stores
-  requoted-is : isShort (bookWithout s e .taken) ≡ false → quotedWith s (quoteChange (s .given) (s .book .taken) old (quoteFrom e)) ≡ quoteDone s e
+  pub requoted-is : isShort (bookWithout s e .taken) ≡ false → quotedWith s (quoteChange (s .given) (s .book .taken) old (quoteFrom e)) ≡ quoteDone s e
   requoted-is h =
       ap (λ (b : Book). record { answer = 0; bid = s .given + 1; ask = s .given + 2; session = withBook s (s .given + 2) b })
       (rw (fresh-is h) (requoted-stored (s .book) old (record { bid = bidPlace s e; ask = askPlace s e }) (bidEntered s e) (askEntered s e) (bid-is-placed h) (ask-is-placed h)))
 
-  -- by where the old sides stand
-  by-places : quotedBy s (quoteEffect (s .phase) (s .parameters) (controlReference s) false (s .given) (s .book .taken) old e) ≡ quoted s e
-  unfolding quoted quoteEffect
-  by-places =
-      answered-cases checks QuoteEffect.Refused (QuoteEffect.Done (quoteChange (s .given) (s .book .taken) old (quoteFrom e))) (λ (f : QuoteEffect). quotedBy s f ≡ quoted s e)
-      (λ n h i. answered-refused (quoteChecks s e) (quoteRefused s) (quoteDone s e) (i ∙ same) h)
-      (λ i. requoted-is (clear (quoteChecks s e) tt (i ∙ same) 10) ∙ answered-done (quoteChecks s e) (quoteRefused s) (quoteDone s e) (i ∙ same))
-    where
-      checks : List Check
-      checks = quoteRows (s .phase) (s .parameters) (controlReference s) false (s .given) (isShort (freedWords (s .book .taken) old)) e
+  -- by where the old sides stand, whether a thirty-third member's or not: what is returned by the effect is what the checks answer
+  module _ {A : Type 0} (beyond : Bool) (by : QuoteEffect → A) (refused : ℕ → A) (done : A) (refuses : (n : ℕ) → by (QuoteEffect.Refused n) ≡ refused n)
+      (does : isShort (bookWithout s e .taken) ≡ false → by (QuoteEffect.Done (quoteChange (s .given) (s .book .taken) old (quoteFrom e))) ≡ done) where
+    abbrev checks : Bool → List Check
+    checks few = quoteRows (s .phase) (s .parameters) (controlReference s) beyond (s .given) few e
 
-      same : firstHit checks ≡ firstHit (quoteChecks s e)
-      same = rw short
+    pub by-places : by (quoteEffect (s .phase) (s .parameters) (controlReference s) beyond (s .given) (s .book .taken) old e) ≡ answered (checks (isShort (bookWithout s e .taken))) refused done
+    unfolding quoteEffect
+    by-places =
+        answered-cases (checks (isShort (freedWords (s .book .taken) old))) QuoteEffect.Refused (QuoteEffect.Done (quoteChange (s .given) (s .book .taken) old (quoteFrom e)))
+        (λ (f : QuoteEffect). by f ≡ answered (checks (isShort (bookWithout s e .taken))) refused done)
+        (λ n h i. refuses n ∙ answered-refused (checks (isShort (bookWithout s e .taken))) refused done (i ∙ same) h)
+        (λ i. does (clear (checks (isShort (bookWithout s e .taken))) tt (i ∙ same) 10) ∙ answered-done (checks (isShort (bookWithout s e .taken))) refused done (i ∙ same))
+      where
+        same : firstHit (checks (isShort (freedWords (s .book .taken) old))) ≡ firstHit (checks (isShort (bookWithout s e .taken)))
+        same = rw short
 
 -- what a quote does is what the call returns
 pub quoted-by : (s : Session) (e : QuoteEntry) → Sound s → quotedBy s (quoteIn s e) ≡ quoted s e
-quoted-by s e sound = rw (old-places s sound (e .member)) (by-places s e)
+unfolding quoted
+quoted-by s e sound = rw (old-places s sound (e .member)) (by-places s e false (quotedBy s) (quoteRefused s) (quoteDone s e) (λ n. refl) (requoted-is s e))
 
 -- .. and it stands at places
 abbrev freshOf : QuoteEffect → Pair
 freshOf (QuoteEffect.Refused n) = record { bid = 0; ask = 0 }
 freshOf (QuoteEffect.Done c) = c .fresh
 
-placed : (s : Session) (e : QuoteEntry) (before : Pair) {c : QuoteChange}
-    → quoteEffect (s .phase) (s .parameters) (controlReference s) false (s .given) (s .book .taken) before e ≡ QuoteEffect.Done c → (c .fresh .bid < places) × (c .fresh .ask < places)
+pub placed : (s : Session) (e : QuoteEntry) (beyond : Bool) (before : Pair) {c : QuoteChange}
+    → quoteEffect (s .phase) (s .parameters) (controlReference s) beyond (s .given) (s .book .taken) before e ≡ QuoteEffect.Done c → (c .fresh .bid < places) × (c .fresh .ask < places)
 unfolding quoteEffect
-placed s e before {c} =
+placed s e beyond before {c} =
     answered-cases checks QuoteEffect.Refused (QuoteEffect.Done (quoteChange (s .given) (s .book .taken) before (quoteFrom e)))
     (λ (f : QuoteEffect). f ≡ QuoteEffect.Done c → (c .fresh .bid < places) × (c .fresh .ask < places))
     (λ n h i k. absurd (let z : _≡_ {A = ℕ} 0 1 = cc in omega arith))
     (λ i k. let same : freshPair (s .book .taken) before ≡ c .fresh = ap freshOf k in
-    rw (← same) (fresh-places (s .phase) (s .parameters) (controlReference s) false (s .given) (s .book .taken) before e (clear checks tt i 10)))
+    rw (← same) (fresh-places (s .phase) (s .parameters) (controlReference s) beyond (s .given) (s .book .taken) before e (clear checks tt i 10)))
   where
     checks : List Check
-    checks = quoteRows (s .phase) (s .parameters) (controlReference s) false (s .given) (isShort (freedWords (s .book .taken) before)) e
+    checks = quoteRows (s .phase) (s .parameters) (controlReference s) beyond (s .given) (isShort (freedWords (s .book .taken) before)) e
 
 pub quote-placed : (s : Session) (e : QuoteEntry) {c : QuoteChange} → quoteIn s e ≡ QuoteEffect.Done c → (c .fresh .bid < places) × (c .fresh .ask < places)
-quote-placed s e = placed s e (oldIn s (e .member))
+quote-placed s e = placed s e false (oldIn s (e .member))

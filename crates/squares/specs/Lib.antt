@@ -4,4 +4,5 @@
 pub mod Square
 -- as the code computes it
 pub mod Naming
+pub mod Rows
 pub mod Pairs
