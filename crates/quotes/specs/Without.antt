@@ -142,7 +142,7 @@ module _ (legal : ℕ → Bool) (given : ℕ) (b : Book) (sound : SoundBook lega
   without-sound = cleared-at-sound (clearedAt b bid-place) ask-place legal given (cleared-at-sound b bid-place legal given sound)
 
   -- a taken place of it is neither of the two
-  still-taken : (p : ℕ) → p < places → isTaken (withoutQuote member b .taken) p ≡ true → (p ≢ bid-place) × (p ≢ ask-place)
+  pub still-taken : (p : ℕ) → p < places → isTaken (withoutQuote member b .taken) p ≡ true → (p ≢ bid-place) × (p ≢ ask-place)
   still-taken p h e = (
     (λ i. true≢false (sym e ∙ cleared-at-stays (clearedAt b bid-place) ask-place first-sized p h (subst (λ (x : ℕ). isTaken (clearedAt b bid-place .taken) x ≡ false) (sym i) (cleared-at-free b bid-place (sound .sized) (omega arith))))),
     (λ i. true≢false (sym e ∙ subst (λ (x : ℕ). isTaken (withoutQuote member b .taken) x ≡ false) (sym i) (cleared-at-free (clearedAt b bid-place) ask-place first-sized (omega arith)))),
