@@ -72,6 +72,12 @@ added-total cell quantity [] h = absurd (omega arith)
 added-total zero quantity (x ∷ xs) h = omega arith
 added-total (suc cell) quantity (x ∷ xs) h = omega (arith, added-total cell quantity xs (omega arith))
 
+-- .. no more than that, be the cell one of them or not
+added-most : (cell quantity : ℕ) (cells : List ℕ) → total (addedAt cell quantity cells) ≤ total cells + quantity
+added-most cell quantity [] = omega arith
+added-most zero quantity (x ∷ xs) = omega arith
+added-most (suc cell) quantity (x ∷ xs) = omega (arith, added-most cell quantity xs)
+
 -- a cell is no more than all
 pub cell-le-total : (cell : ℕ) (cells : List ℕ) → getD cells cell 0 ≤ total cells
 cell-le-total cell [] = omega arith
@@ -95,6 +101,20 @@ module _ (row : ℕ → ℕ) (t : Trade) (ts rest : List Trade) (front : ts ≡ 
 pub added-none : (row : ℕ → ℕ) {ts : List Trade} → ts ≡ [] → (cells : List ℕ) → addedTo row ts cells ≡ cells
 unfolding addedTo
 added-none row e cells = rw e
+
+pub all-added-length : (row : ℕ → ℕ) (ts : List Trade) (cells : List ℕ) → length (addedTo row ts cells) ≡ length cells
+unfolding addedTo
+all-added-length row [] cells = refl
+all-added-length row (t ∷ ts) cells =
+    let cell = cellOf (row (t .buy)) (row (t .sell)) in
+    all-added-length row ts (addedAt cell (t .quantity) cells) ∙ added-length cell (t .quantity) cells
+
+pub all-added-most : (row : ℕ → ℕ) (ts : List Trade) (cells : List ℕ) → total (addedTo row ts cells) ≤ total cells + volume ts
+unfolding addedTo
+all-added-most row [] cells = omega arith
+all-added-most row (t ∷ ts) cells =
+    let cell = cellOf (row (t .buy)) (row (t .sell)) in
+    omega (arith, all-added-most row ts (addedAt cell (t .quantity) cells), added-most cell (t .quantity) cells)
 
 -- ---- finding a row
 pub row-found : (xs : List ℕ) (m d : ℕ) (i : ℕ) → i < length xs → getD xs i d ≡ m → rowOf (drop i xs) m ≡ 0
