@@ -67,7 +67,7 @@ module _ (s : Session) (sound : Sound s) (a : Auction) where
       omega (arith, executable-within on price (part s a))
 
   -- a book's orders have no more open than places times the largest quantity
-  traded-within : (price quantity : ℕ) → outcomeOf s a ≡ Traded price quantity → volume (tradesOf quantity (part s a)) ≤ places * maxQuantity
+  pub traded-within : (price quantity : ℕ) → outcomeOf s a ≡ Traded price quantity → volume (tradesOf quantity (part s a)) ≤ places * maxQuantity
   unfolding interest
   traded-within price quantity e =
       rw (trades-volume price quantity (part s a) (takingPart-distinct a (resting (s .book)) (resting-distinct (legalPrice s) (s .given) (s .book) (sound .book-sound))) (enough price quantity e))

@@ -4,3 +4,5 @@
 pub mod Auctions
 -- as the code computes it
 pub mod AuctionCalls
+-- it hands SoundDesk on
+pub mod SoundAfter
