@@ -7,8 +7,9 @@ use effects::QuoteChange;
 use lines::Word;
 use records::Record;
 use session::Session;
-pub use tell::told;
-pub use tell::transcribed;
+pub use steps::auction_line;
+pub use tell::next_told;
+pub use tell::records_told;
 use terms::Start;
 
 // A session after a record whose lines are written, and the place behind them.

@@ -146,7 +146,7 @@ pub(crate) fn start_written(
     }
 }
 
-fn auction_line(answer: u8, result: AuctionAnswer) -> Line
+pub fn auction_line(answer: u8, result: AuctionAnswer) -> Line
     ensures { λ r. ⌜ r ≡ auctionLine answer result ⌝ }
 {
     Line {

@@ -16,8 +16,6 @@ use lines::LINE_ROOM;
 use lines::Line;
 use lines::TRADE_ROOM;
 use lines::done_line;
-use lines::end_line;
-use lines::fault_line;
 use lines::line_of;
 use lines::quote_line;
 use places::WORD_PLACES;
@@ -38,15 +36,13 @@ ghost use mathlib.Core.Path.{_≡_};
 ghost use Prim.Native.Nat.{_+_, _≤_, _<_, _^_};
 ghost use lib.ListN.{length, take};
 ghost use Rattle.terms.specs.Bounds.{tradeListLength};
-ghost use mathlib.Core.Bool.{true};
-ghost use Rattle.session.specs.State.{freshSession};
 ghost use Rattle.session.specs.Sound.{Sound};
-ghost use Rattle.lists.specs.Put.{Wrote, put};
-ghost use Rattle.transcript.specs.Told.{nextTold as Told·nextTold, recordsTold, haltOf, lastOf, lastRoom, faults, tellingLeaves, told as Told·told};
+ghost use Rattle.lists.specs.Put.{put};
+ghost use Rattle.transcript.specs.Told.{nextTold as Told·nextTold, recordsTold, haltOf};
 
 const RECORD_ROOM: usize = LINE_ROOM + TRADE_ROOM * Trade::MOST;
 
-fn next_told(bytes: &[u8], place: usize, ended: bool, room: usize) -> Next
+pub fn next_told(bytes: &[u8], place: usize, ended: bool, room: usize) -> Next
     ensures { λ r. ⌜ r ≡ Told·nextTold (now (bytes .entry)) place ended room ⌝ }
 {
     if room < RECORD_ROOM {
@@ -63,7 +59,7 @@ fn next_told(bytes: &[u8], place: usize, ended: bool, room: usize) -> Next
 
 // The records, one by one. One session stands through all of them, and a change is stored in it here, column by column: the kit lends one
 // column to a call, and a session by value would be copied for each record.
-fn records_told(
+pub fn records_told(
     session: Session,
     answered: u64,
     bytes: &[u8],
@@ -218,46 +214,4 @@ fn records_told(
             }
         }
     }
-}
-
-// The fault, if one ended the walk, and the count of records answered.
-fn last_lines(out: &mut [u8], at: usize, answered: u64, stop: Stop) -> usize
-    requires { ⌜ (at + lastRoom stop ≤ length (now out)) × (answered + faults stop < 2 ^ 64) ⌝ }
-    ensures { λ r. ⌜ Wrote (now (out .entry)) (now (out .exit)) at r (lastOf answered stop) ⌝ }
-{
-    match stop {
-        Stop::Full => at,
-        Stop::Waits => at,
-        Stop::Fault => {
-            let behind = fault_line(out, at, answered + 1);
-            end_line(out, behind, answered)
-        }
-        Stop::End => end_line(out, at, answered),
-    }
-}
-
-// The bytes at hand told from the buffer's front on. `ended` says that no more will come.
-pub fn told(session: Session, answered: u64, bytes: &[u8], ended: bool, out: &mut [u8]) -> Telling
-    requires { ⌜ Sound session × (answered + length (now bytes) < 2 ^ 64) ⌝ }
-    ensures { λ r. ⌜ tellingLeaves r (now (out .exit)) ≡ Told·told session answered (now (bytes .entry)) ended (now (out .entry)) ⌝ }
-{
-    let mut list = [0u32; Session::TRADE_LIST];
-    let r = records_told(session, answered, bytes, ended, &mut list, out);
-    let stop = r.stop;
-    let later = r.session;
-    let end = last_lines(out, r.at, r.answered, stop);
-    Telling {
-        session: later,
-        answered: r.answered,
-        place: r.place,
-        at: end,
-        stop,
-    }
-}
-
-// A whole file told: what the session program prints for it, as far as there is room.
-pub fn transcribed(file: &[u8], out: &mut [u8]) -> Telling
-    ensures { λ r. ⌜ tellingLeaves r (now (out .exit)) ≡ Told·told freshSession 0 (now (file .entry)) true (now (out .entry)) ⌝ }
-{
-    told(Session::fresh(), 0, file, true, out)
 }

@@ -2,8 +2,8 @@
 use borrow.Author.Needs.{needs}
 use native.Mathlib.Omega.{arith}
 use Rattle.session.specs.Sound.{fresh-sound}
-use Rattle.transcript.proofs.tell.transcribed.Statement.{statement}
-use Rattle.transcript.proofs.tell.transcribed.Tie as tie
+use Rattle.telling.proofs.transcribed.Statement.{statement}
+use Rattle.telling.proofs.transcribed.Tie as tie
 
 fresh-requires : tie.Need-fresh-requires
 fresh-requires c κs = search needs

@@ -1,9 +1,9 @@
 -- The records, and the last lines behind them.
 use borrow.Author.Needs.{needs}
 use native.Mathlib.Omega.{arith}
 use Rattle.transcript.specs.Underway.{last-room, last-counted, told-whole}
-use Rattle.transcript.proofs.tell.told.Statement.{statement}
-use Rattle.transcript.proofs.tell.told.Tie as tie
+use Rattle.telling.proofs.told.Statement.{statement}
+use Rattle.telling.proofs.told.Tie as tie
 
 slice-aggregate-records-told : tie.Need-slice-aggregate-records-told
 slice-aggregate-records-told c = search needs

@@ -4,9 +4,9 @@ use borrow.Author.Needs.{needs}
 use native.Mathlib.Omega.{arith}
 use Rattle.lines.specs.Lengths.{fault-length}
 use Rattle.lists.specs.Put.{put-nothing}
 use Rattle.transcript.specs.Next.{fault-last}
-use Rattle.transcript.proofs.tell.last_lines.Statement.{statement}
-use Rattle.transcript.proofs.tell.last_lines.Tie as tie
+use Rattle.telling.proofs.last_lines.Statement.{statement}
+use Rattle.telling.proofs.last_lines.Tie as tie
 
 enum-told : tie.Need-enum-told
 enum-told c = search needs
