@@ -1,25 +1,23 @@
 -- A fresh desk is sound, and start, order, quote and delete hand SoundDesk on (A3, K5).
-use Prim.Native.Nat.{ℕ, zero, suc, _+_, _*_, _≤_, _<_}
-use mathlib.Core.Bool.{Bool, true, false, not, _&&_, true≢false}
+use Prim.Native.Nat.{ℕ, zero, suc, _≤_, _<_}
+use mathlib.Core.Bool.{Bool, true, false, true≢false}
 use mathlib.Core.Path.{_≡_, refl, sym, ap, subst, _∙_}
 use mathlib.Core.List.{List}
 use native.Mathlib.Omega.{arith}
 use borrow.Author.Tests.{leb-false}
-use lib.Dec.{T, leb}
 use lib.ListN.{length, getD, set, replicate, length-set, length-replicate}
-use lib.Seq.{length-take-le}
 use Rattle.terms.specs.Bounds.{places}
 use Rattle.terms.specs.declared.orders.{Entry.Entry}
 use Rattle.terms.specs.declared.parameters.{Start.Start}
 use Rattle.terms.specs.declared.quote_terms.{QuoteEntry.QuoteEntry}
-use Rattle.places.specs.Places.{wordCount, isTaken, lowestFree, isFull, isShort}
+use Rattle.places.specs.Places.{wordCount, lowestFree, isFull, isShort}
 use Rattle.places.specs.Words.{zeros-free}
 use Rattle.book.specs.declared.{Book.Book}
-use Rattle.book.specs.Columns.{stored, cleared}
+use Rattle.book.specs.Columns.{cleared}
 use Rattle.book.specs.Resting.{placeOf, isOf}
 use Rattle.controls.specs.declared.phases.{Phase.Phase, Phase.the-variants.Fresh, Phase.the-variants.PreOpening, Phase.the-variants.Day, Phase.the-variants.Closed}
 use Rattle.controls.specs.Phases.{hasStarted}
-use Rattle.refusals.specs.Checks.{Check, firstHit, answered-done, answered-cases}
+use Rattle.refusals.specs.Checks.{firstHit, answered-done, answered-cases}
 use Rattle.refusals.specs.Exactly.{clear}
 use Rattle.refusals.specs.Rows.{orderRows, quoteRows}
 use Rattle.session.specs.declared.{Session.Session}
@@ -31,12 +29,12 @@ use Rattle.quotation.specs.declared.{Quoted.Quoted as PlainQuoted}
 use Rattle.quotation.specs.Quote as quotation
 use Rattle.quotation.specs.QuoteSound.{quoted-sound, accepted-quote, with-bid}
 use Rattle.quotes.specs.Without.{without-sound}
-use Rattle.squares.specs.Square.{squareMembers, squareCells, total, rowOf, Small}
-use Rattle.squares.specs.Rows.{beyond-by-row}
+use Rattle.squares.specs.Square.{squareMembers, squareCells, total, Small}
 use Rattle.desk.specs.declared.{Desk.Desk, Entered.Entered, Quoted.Quoted}
 use Rattle.desk.specs.Desk.{freshDesk, known, rowIn, isBeyond, entering, withTotals}
 use Rattle.desk.specs.Calls.{started, deleted, orderChecks, orderRefused, orderDone, entered, quoteChecks, quoteRefused, quoteDone, quoted}
 use Rattle.desk.specs.Sound.{SoundDesk, RowsKnown, tradedMost}
+use Rattle.desk.specs.EntryCalls.{beyond-is}
 use Rattle.desk.specs.RowsKept.{rows-fewer, cleared-fewer, without-fewer, rows-stored, small-set}
 use Rattle.desk.specs.MembersKept as kept
 
@@ -108,13 +106,8 @@ deleted-desk-sound d number member sound =
 
 -- ---- an entry of a member that the square has room for
 module _ (d : Desk) (sound : SoundDesk d) (m : ℕ) (room-left : isBeyond d m ≡ false) where
-  as-many : length (known d) ≡ d .count
-  as-many = length-take-le (d .count) (d .members) (omega (arith, sound .few, sound .members-long))
-
   row-room : rowIn d m < squareMembers
-  row-room =
-      let beyond : leb squareMembers (rowIn d m) ≡ isBeyond d m = rw as-many at (beyond-by-row (known d) m (omega (arith, sound .few, as-many))) in
-      leb-false squareMembers (rowIn d m) (beyond ∙ room-left)
+  row-room = leb-false squareMembers (rowIn d m) (beyond-is d sound m ∙ room-left)
 
   -- the members with it
   after : kept.Entered (known d) (set (d .members) (rowIn d m) m) (entering d m (d .session) (d .rows) .count) m (rowIn d m)

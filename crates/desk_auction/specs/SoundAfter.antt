@@ -1,7 +1,6 @@
 -- An auction hands SoundDesk on: orders leave, and its trades are no more than the phase it leads to allows (A3, K5e).
-use Prim.Native.Nat.{ℕ, _+_, _*_, _≤_}
-use mathlib.Core.Bool.{true, false, true≢false}
-use mathlib.Core.Path.{_≡_, refl, sym, ap, subst, _∙_}
+use Prim.Native.Nat.{ℕ, _+_, _≤_}
+use mathlib.Core.Path.{_≡_, refl, _∙_}
 use mathlib.Core.List.{List, []}
 use native.Mathlib.Omega.{arith}
 use lib.Dec.{T}
@@ -18,10 +17,10 @@ use Rattle.auction.specs.Outcome.{trades, priceAnswered, countAnswered}
 use Rattle.auction.specs.After.{restOf, rest-keeps}
 use Rattle.controls.specs.declared.phases.{Phase.Phase, Phase.the-variants.Fresh, Phase.the-variants.PreOpening, Phase.the-variants.Day, Phase.the-variants.Closed}
 use Rattle.controls.specs.Phases.{allowsAuction, phaseAfter}
-use Rattle.refusals.specs.Checks.{firstHit, answered-cases}
+use Rattle.refusals.specs.Checks.{answered-cases}
 use Rattle.refusals.specs.Exactly.{clear}
 use Rattle.session.specs.declared.{Session.Session}
-use Rattle.session.specs.Sound.{legalPrice, Sound}
+use Rattle.session.specs.Sound.{legalPrice}
 use Rattle.session.specs.State.{part}
 use Rattle.answers.specs.Auctions as plain
 use Rattle.answers.specs.SoundAfter.{auctioned-sound}
