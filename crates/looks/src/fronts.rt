@@ -2,10 +2,10 @@
 // and with lists at their bound.
 use crate::queues::ASKED;
 use crate::queues::queue_of;
-use crate::text::put_line;
-use crate::text::wide;
 use calls::Session;
 use calls::filled_front;
+use shown::put_line;
+use shown::wide;
 use terms::Auction;
 use terms::Place;
 use terms::Side;

@@ -3,7 +3,6 @@
 // the second program's.
 mod fronts;
 mod queues;
-mod text;
 
 use calls::Session;
 use fronts::front_lines;
@@ -16,11 +15,11 @@ use records::Deletion;
 use records::Piece;
 use records::Record;
 use records::read_at;
+use shown::put_line;
+use shown::show;
 use terms::Entry;
 use terms::QuoteEntry;
 use terms::Start;
-use text::put_line;
-use text::show;
 ghost use Prim.Native.Nat.{_+_, _<_, _^_};
 ghost use Rattle.session.specs.Sound.{Sound};
 

@@ -1,11 +1,11 @@
 // The lines of theoretical answers and of ranked queues (01 "Outcomes"). A side and an auction are 1 or 2; each is asked for with 0 and 3 too,
 // which are refused.
-use crate::text::put_bytes;
-use crate::text::put_line;
-use crate::text::put_numbers;
-use crate::text::put_order_numbers;
 use calls::Queued;
 use calls::Session;
+use shown::put_bytes;
+use shown::put_line;
+use shown::put_numbers;
+use shown::put_order_numbers;
 use terms::Auction;
 ghost use Prim.Native.Nat.{_≤_};
 ghost use lib.ListN.{length};

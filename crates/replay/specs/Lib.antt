@@ -1,4 +1,3 @@
 -- The session program: what holds between its turns, and of all of them.
-pub mod Moved
 pub mod Turns
 pub mod WholeRun

@@ -1,6 +1,7 @@
 // The session program: runs a session file from standard input and prints what happened (01 "Session file").
+use feed::moved_to_front;
+use feed::read_some;
 use libc::STDERR_FILENO;
-use libc::STDIN_FILENO;
 use libc::STDOUT_FILENO;
 use session::Session;
 use telling::told;
@@ -58,39 +59,16 @@ fn say(line: &[u8]) {
     io::write_all(STDERR_FILENO, line);
 }
 
-// The bytes from one place to another, moved to the front; how many they are.
-fn moved_to_front(bytes: &mut [u8], from: usize, to: usize) -> usize
-    requires { ⌜ (from ≤ to) × (to ≤ length (now bytes)) ⌝ }
-    ensures { λ r. ⌜ (r ≡ to - from) × (take r (now (bytes .exit)) ≡ take (to - from) (drop from (now (bytes .entry)))) ⌝ }
-{
-    let n = to - from;
-    let mut i: usize = 0;
-    while i < n {
-        bytes[i] = bytes[from + i];
-        i += 1;
-    }
-    n
-}
-
-// One read into the buffer; how many bytes came. A read that fails ends the input like its end.
-fn read_some(bytes: &mut [u8]) -> usize
-    requires { ⌜ 0 < length (now bytes) ⌝ }
-    ensures { λ r. ⌜ r ≤ length (now (bytes .entry)) ⌝ }
-{
-    let got = libc::read(STDIN_FILENO, bytes);
-    if got < 0 {
-        say(b"replay: standard input can't be read further; it is taken to end here\n");
-    }
-    io::count(got, bytes)
-}
-
 // One read behind the bytes held. They are fewer than a record can have, so there is room for it.
 fn read_behind(input: &mut [u8], held: Held) -> Held
     requires { ⌜ Within (length (now input)) held × (held .to - held .from < length (now input)) ⌝ }
     ensures { λ r. ⌜ Within (length (now (input .entry))) r × ReadBehind (length (now (input .entry))) (heldIn held (now (input .entry))) (heldIn r (now (input .exit))) (r .ended) ⌝ }
 {
     let kept = moved_to_front(input, held.from, held.to);
-    let got = read_some(&mut input[kept..]);
+    let got = read_some(
+        &mut input[kept..],
+        b"replay: standard input can't be read further; it is taken to end here\n",
+    );
     Held {
         from: 0,
         to: kept + got,

@@ -7,7 +7,7 @@ use mathlib.Core.List.{List, [], _∷_, _++_}
 use native.Mathlib.Omega.{arith}
 use borrow.Author.Tests.{eq-eqb, ne-eqb}
 use lib.Dec.{eqb}
-use lib.ListN.{length, getD, set, take, drop, length-set, length-append, length-drop}
+use lib.ListN.{length, getD, set, take, drop, length-set, length-append, length-drop, drop-of-length-le}
 use lib.Seq.{length-take-le, drop-cons, set-at, append-snoc, getD-take, getD-drop}
 use Rattle.lists.specs.Sums.{_∈_, sum}
 use Rattle.terms.specs.Bounds.{places}
@@ -151,3 +151,12 @@ row-length cells long n h = length-take-le squareMembers (drop (n * squareMember
 
 pub cell-in-row : (cells : List ℕ) (n column : ℕ) → column < squareMembers → getD (rowAt cells n) column 0 ≡ getD cells (cellOf n column) 0
 cell-in-row cells n column h = getD-take squareMembers (drop (n * squareMembers) cells) column 0 h ∙ getD-drop (n * squareMembers) cells column 0
+
+-- ---- summed one by one
+pub total-next : (cells : List ℕ) (i : ℕ) → i < length cells → total (drop i cells) ≡ getD cells i 0 + total (drop (i + 1) cells)
+total-next cells i h =
+    let e : i + 1 ≡ suc i = omega arith in
+    rw (drop-cons cells i 0 h, e)
+
+pub total-all : (cells : List ℕ) (i : ℕ) → length cells ≤ i → total (drop i cells) ≡ 0
+total-all cells i h = rw (drop-of-length-le cells h)

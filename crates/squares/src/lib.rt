@@ -146,3 +146,17 @@ pub fn square_of(totals: &[u64; CELLS]) -> [[u64; MEMBERS]; MEMBERS]
     }
     square
 }
+
+// All cells together.
+pub fn total_of(totals: &[u64; CELLS]) -> u64
+    requires { ⌜ (length (now totals) ≡ squareCells) × (total (now totals) < 2 ^ 64) ⌝ }
+    ensures { λ r. ⌜ r ≡ total (now (totals .entry)) ⌝ }
+{
+    let mut sum: u64 = 0;
+    let mut cell: usize = 0;
+    while cell < CELLS {
+        sum += totals[cell];
+        cell += 1;
+    }
+    sum
+}

@@ -1,5 +1,4 @@
-// Text gathered in a lent buffer from its front on, so that a look is one write and not one for each of its numbers. What puts bytes there
-// answers the place behind them.
+// Text gathered in a lent buffer from its front on and shown at once, not number by number. What puts bytes there answers the place behind them.
 use libc::STDOUT_FILENO;
 ghost use Prim.Native.Nat.{_≤_};
 ghost use lib.ListN.{length};
@@ -8,14 +7,14 @@ ghost use lib.ListN.{length};
 const DIGITS: usize = 20;
 
 // What is gathered goes to standard output.
-pub(crate) fn show(out: &[u8], at: usize)
+pub fn show(out: &[u8], at: usize)
     requires { ⌜ at ≤ length (now out) ⌝ }
 {
     io::write_all(STDOUT_FILENO, &out[..at]);
 }
 
 // Bytes behind those that are gathered; where there is no room for them both are shown, so that no look is too long.
-pub(crate) fn put_bytes(out: &mut [u8], at: usize, bytes: &[u8]) -> usize
+pub fn put_bytes(out: &mut [u8], at: usize, bytes: &[u8]) -> usize
     requires { ⌜ at ≤ length (now out) ⌝ }
     ensures { λ r. ⌜ r ≤ length (now (out .entry)) ⌝ }
 {
@@ -45,7 +44,7 @@ fn put_number(out: &mut [u8], at: usize, n: u64) -> usize
 }
 
 // Numbers, each behind a space.
-pub(crate) fn put_numbers(out: &mut [u8], at: usize, numbers: &[u64]) -> usize
+pub fn put_numbers(out: &mut [u8], at: usize, numbers: &[u64]) -> usize
     requires { ⌜ at ≤ length (now out) ⌝ }
     ensures { λ r. ⌜ r ≤ length (now (out .entry)) ⌝ }
 {
@@ -58,14 +57,14 @@ pub(crate) fn put_numbers(out: &mut [u8], at: usize, numbers: &[u64]) -> usize
     end
 }
 
-pub(crate) fn wide(number: u32) -> u64
+pub fn wide(number: u32) -> u64
     ensures { λ r. ⌜ r ≤ 4294967295 ⌝ }
 {
     number as u64
 }
 
 // .. and the order numbers of a queue.
-pub(crate) fn put_order_numbers(out: &mut [u8], at: usize, numbers: &[u32]) -> usize
+pub fn put_order_numbers(out: &mut [u8], at: usize, numbers: &[u32]) -> usize
     requires { ⌜ at ≤ length (now out) ⌝ }
     ensures { λ r. ⌜ r ≤ length (now (out .entry)) ⌝ }
 {
@@ -79,7 +78,7 @@ pub(crate) fn put_order_numbers(out: &mut [u8], at: usize, numbers: &[u32]) -> u
 }
 
 // A line of a word and its numbers.
-pub(crate) fn put_line(out: &mut [u8], at: usize, word: &[u8], numbers: &[u64]) -> usize
+pub fn put_line(out: &mut [u8], at: usize, word: &[u8], numbers: &[u64]) -> usize
     requires { ⌜ at ≤ length (now out) ⌝ }
     ensures { λ r. ⌜ r ≤ length (now (out .entry)) ⌝ }
 {

@@ -2,11 +2,11 @@
 use Prim.Native.Nat.{_-_, _≤_}
 use mathlib.Core.Path.{_≡_, refl}
 use lib.ListN.{length, length-set}
-use Rattle.replay.specs.Moved.{movedFrom, moved-next, moved-all}
+use Rattle.feed.specs.Moved.{movedFrom, moved-next, moved-all}
 use borrow.Author.Needs.{needs}
 use native.Mathlib.Omega.{arith}
-use Rattle.replay.proofs.moved_to_front.Statement.{statement}
-use Rattle.replay.proofs.moved_to_front.Tie as tie
+use Rattle.feed.proofs.moved_to_front.Statement.{statement}
+use Rattle.feed.proofs.moved_to_front.Tie as tie
 
 abbrev Inv-loop : tie.InvT-loop
 Inv-loop bytes₀ from to n i₀ bytes i = (i ≤ n) × (n ≡ to - from) × (length bytes ≡ length bytes₀) × (bytes ≡ movedFrom from bytes₀ i)

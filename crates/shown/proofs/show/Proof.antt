@@ -1,8 +1,8 @@
 use mathlib.Core.Path.{sym}
 use lib.Seq.{length-take-le}
 use borrow.Author.Needs.{needs}
-use Rattle.looks.proofs.text.show.Statement.{statement}
-use Rattle.looks.proofs.text.show.Tie as tie
+use Rattle.shown.proofs.show.Statement.{statement}
+use Rattle.shown.proofs.show.Tie as tie
 
 slice-aggregate-write-all : tie.Need-slice-aggregate-write-all
 slice-aggregate-write-all c = sym (length-take-le (c .before .before .args .at) (c .before .before .args .out .now) (c .before .before .pre))

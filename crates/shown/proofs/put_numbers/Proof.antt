@@ -2,8 +2,8 @@ use Prim.Native.Nat.{_≤_, _-_}
 use mathlib.Core.Path.{_≡_}
 use lib.ListN.{length}
 use borrow.Author.Needs.{needs}
-use Rattle.looks.proofs.text.put_numbers.Statement.{statement}
-use Rattle.looks.proofs.text.put_numbers.Tie as tie
+use Rattle.shown.proofs.put_numbers.Statement.{statement}
+use Rattle.shown.proofs.put_numbers.Tie as tie
 
 abbrev Inv-loop : tie.InvT-loop
 Inv-loop out₀ at numbers end₀ i₀ out end i = (i ≤ length numbers) × (end ≤ length out) × (length out ≡ length out₀)

@@ -2,8 +2,8 @@ use Prim.Native.Nat.{_≤_, _-_}
 use mathlib.Core.Path.{_≡_}
 use lib.ListN.{length}
 use borrow.Author.Needs.{needs}
-use Rattle.looks.proofs.text.put_bytes.Statement.{statement}
-use Rattle.looks.proofs.text.put_bytes.Tie as tie
+use Rattle.shown.proofs.put_bytes.Statement.{statement}
+use Rattle.shown.proofs.put_bytes.Tie as tie
 
 abbrev Inv-loop : tie.InvT-loop
 Inv-loop out₀ at bytes room i₀ out i = (i ≤ length bytes) × (length out ≡ length out₀)

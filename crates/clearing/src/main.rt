@@ -1,0 +1,131 @@
+// The clearing program: runs a session file from standard input in a session that keeps the square, prints the session's lines, and then who owes whom
+// (02 K5).
+mod owing;
+mod stepping;
+
+use desk::Desk;
+use feed::moved_to_front;
+use feed::read_some;
+use libc::STDERR_FILENO;
+use libc::STDOUT_FILENO;
+use owing::show_owed;
+use session::Session;
+use stepping::carried_out;
+use telling::last_lines;
+use transcript::Next;
+use transcript::Stop;
+use transcript::next_told;
+ghost use Prim.Native.Nat.{_≤_};
+ghost use lib.ListN.{length};
+ghost use Rattle.transcript.specs.Steps.{recordRoom};
+ghost use Rattle.desk.specs.Sound.{SoundDesk};
+
+// A loop must end and nothing says that an input does: there are never more turns than bytes and reads.
+const MOST_TURNS: u64 = 1_099_511_627_776;
+
+// The bytes of the buffer that are not told yet, and whether more can come.
+pub struct Held {
+    pub from: usize,
+    pub to: usize,
+    pub ended: bool,
+}
+
+// What was gathered goes to standard output.
+fn print(text: &[u8]) {
+    let is_written = io::write_all(STDOUT_FILENO, text);
+    if !is_written {
+        io::write_all(
+            STDERR_FILENO,
+            b"clearing: standard output can't be written\n",
+        );
+    }
+}
+
+// The bytes held and one read behind them. Where they fill the buffer no record is cut, and nothing more is read.
+fn read_behind(input: &mut [u8], held: Held) -> Held
+    requires { ⌜ (held .from ≤ held .to) × (held .to ≤ length (now input)) ⌝ }
+    ensures { λ r. ⌜ (r .from ≤ r .to) × (r .to ≤ length (now (input .entry))) ⌝ }
+{
+    let kept = moved_to_front(input, held.from, held.to);
+    if kept == input.len() {
+        return Held {
+            from: 0,
+            to: kept,
+            ended: true,
+        };
+    }
+    let got = read_some(
+        &mut input[kept..],
+        b"clearing: standard input can't be read further; it is taken to end here\n",
+    );
+    Held {
+        from: 0,
+        to: kept + got,
+        ended: got == 0,
+    }
+}
+
+// The records one by one, to the input's end or to a fault; the desk then.
+fn walk(input: &mut [u8], out: &mut [u8]) -> Desk
+    requires { ⌜ recordRoom ≤ length (now out) ⌝ }
+    ensures { λ r. ⌜ SoundDesk r ⌝ }
+{
+    let mut list = [0u32; Session::TRADE_LIST];
+    let mut desk = Desk::fresh();
+    let mut held = Held {
+        from: 0,
+        to: 0,
+        ended: false,
+    };
+    let mut count: u64 = 0;
+    let mut at: usize = 0;
+    let mut left = MOST_TURNS;
+    while left > 0 {
+        left -= 1;
+        let from = held.from;
+        let to = held.to;
+        let next = next_told(&input[..to], from, held.ended, out.len() - at);
+        match next {
+            Next::Record(record, behind) => {
+                count += 1;
+                let r = carried_out(desk, record, count, &mut list, out, at);
+                let later = r.desk;
+                desk = later;
+                at = r.at;
+                held = Held {
+                    from: behind,
+                    to,
+                    ended: held.ended,
+                };
+            }
+            Next::Stop(stop) => match stop {
+                Stop::Full => {
+                    print(&out[..at]);
+                    at = 0;
+                }
+                Stop::Waits => {
+                    held = read_behind(input, held);
+                }
+                Stop::Fault => {
+                    let end = last_lines(out, at, count, stop);
+                    print(&out[..end]);
+                    return desk;
+                }
+                Stop::End => {
+                    let end = last_lines(out, at, count, stop);
+                    print(&out[..end]);
+                    return desk;
+                }
+            },
+        }
+    }
+    print(&out[..at]);
+    desk
+}
+
+fn main() {
+    let mut input = io::large_buffer();
+    let mut output = io::large_buffer();
+    let desk = walk(&mut input, &mut output);
+    show_owed(&mut output, desk);
+}

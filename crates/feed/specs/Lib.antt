@@ -1,0 +1,2 @@
+-- Bytes moved to the front.
+pub mod Moved
