@@ -3,4 +3,4 @@
 -- the words of the statements
 pub mod Runs
 pub mod Plain
--- pub mod Owed
+pub mod Owed
