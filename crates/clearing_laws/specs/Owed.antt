@@ -7,7 +7,7 @@ use mathlib.Core.Path.{_≡_, refl, sym, ap, subst, _∙_}
 use mathlib.Core.List.{List, [], _∷_, _++_, map, append-assoc, append-nil, Memᴰ·of-map, List·Memᴰ·not-nil, List·Memᴰ·append-cases}
 use native.Mathlib.Omega.{arith}
 use borrow.Author.Tests.{eq-eqb, ne-eqb, eqb-true, eqb-false}
-use lib.Dec.{T, eqb, ltb}
+use lib.Dec.{eqb, ltb}
 use lib.ListN.{length, getD, set}
 use lib.Seq.{length-take-le, getD-take, getD-set-same, getD-set-other}
 use Rattle.lists.specs.Tests.{tests, decided}
@@ -23,8 +23,9 @@ use Rattle.queue.specs.Reach.{resting-distinct}
 use Rattle.trades.specs.declared.{Trade.Trade}
 use Rattle.trades.specs.Trades.{party, volume}
 use Rattle.trades.specs.Written.{tradesWritten}
-use Rattle.squares.specs.Square.{squareMembers, squareCells, cellOf, total, addedTo, cell-le-total}
-use Rattle.squares.specs.Cells.{InSquare, between, cell-after, total-after, cell-handed-out, row-holds}
+use Rattle.squares.specs.Square.{squareMembers, cellOf, total, addedTo, cell-le-total}
+use Rattle.squares.specs.Rows.{row-holds}
+use Rattle.squares.specs.Cells.{InSquare, between, cell-after, total-after, cell-handed-out}
 use Rattle.auction.specs.declared.{Outcome.Outcome, Outcome.the-variants.Traded, Outcome.the-variants.NoTrade, Outcome.the-variants.NonOpening, Outcome.the-variants.Delayed}
 use Rattle.auction.specs.Outcome.{trades, priceAnswered}
 use Rattle.refusals.specs.Checks.{answered-cases}
@@ -37,8 +38,10 @@ use Rattle.desk.specs.declared.{Desk.Desk, Entered.Entered, Quoted.Quoted}
 use Rattle.desk.specs.Desk.{freshDesk, known, rowIn, withTotals, entering}
 use Rattle.desk.specs.Calls.{orderChecks, orderRefused, orderDone, entered, quoteChecks, quoteRefused, quoteDone, quoted}
 use Rattle.desk.specs.Sound.{SoundDesk}
+use Rattle.desk.specs.SoundAfter.{fresh-desk-sound, started-desk-sound, entered-desk-sound, quoted-desk-sound, deleted-desk-sound}
 use Rattle.desk_auction.specs.Auctions.{memberOf, rowOfOrder, tradesListed, clearedBy, auctioned}
 use Rattle.desk_auction.specs.AuctionCalls.{member-of}
+use Rattle.desk_auction.specs.SoundAfter.{auctioned-desk-sound}
 use Rattle.demands.specs.Sequences.{Act, Call}
 use Rattle.demands.specs.Outcomes.{accepted-number}
 use Rattle.demands.specs.Auctioned.{TookPlace, ListWritten, list-written}
@@ -114,9 +117,7 @@ module _ (d e : Desk) (sound : SoundDesk e) (k : Keeps d e) (deals : List Deal) 
   -- no trade so far names a member that came
   apart : (m : ℕ) → IsEntered d m → (i : ℕ) → d .count ≤ i → i < e .count → eqb m (memberAt e i) ≡ false
   apart m (p, h, is) i new here =
-      ne-eqb m (memberAt e i) (λ same.
-          let at : p ≡ i = sym (sound .in-order p (omega (arith, k .grown))) ∙ ap (rowIn e) (k .kept p h ∙ is ∙ same) ∙ sound .in-order i here in
-          omega arith)
+      ne-eqb m (memberAt e i) (λ same. let at : p ≡ i = sym (sound .in-order p (omega (arith, k .grown))) ∙ ap (rowIn e) (k .kept p h ∙ is ∙ same) ∙ sound .in-order i here in omega arith)
 
   of-new : (i j : ℕ) → i < e .count → j < e .count → (d .count ≤ i) ⊎ (d .count ≤ j) → owed (memberAt e i) (memberAt e j) deals ≡ 0
   of-new i j hi hj new = sum-none _ deals (λ x m.
@@ -182,12 +183,13 @@ module _ (d : Desk) (sound : SoundDesk d) (ts : List Trade) (rows : Between d ts
       (λ l. rw (ne-eqb (rowOfOrder d (t .sell)) j (λ e. omega (arith, rows Sell t m))) (nothing (eqb (rowOfOrder d (t .buy)) i) (t .quantity)))
       out)
 
+  side-entered : (side : Side) (t : Trade) → t ∈ ts → IsEntered d (memberOf (resting (d .session .book)) (party side t))
+  side-entered side t m = (rowOfOrder d (party side t), rows side t m, stands d sound (memberOf (resting (d .session .book)) (party side t)) (rows side t m))
+
   both-entered : (x : Deal) → x ∈ map (dealOf d) ts → IsEntered d (x .buyer) × IsEntered d (x .seller)
   both-entered x m =
       let (t, listed, is) = Memᴰ·of-map (dealOf d) ts m in
-      let here : (side : Side) → IsEntered d (memberOf (resting (d .session .book)) (party side t)) =
-          λ side. (rowOfOrder d (party side t), rows side t listed, stands d sound (memberOf (resting (d .session .book)) (party side t)) (rows side t listed)) in
-      subst (λ (y : Deal). IsEntered d (y .buyer) × IsEntered d (y .seller)) is (here Buy, here Sell)
+      subst (λ (y : Deal). IsEntered d (y .buyer) × IsEntered d (y .seller)) is (side-entered Buy t listed, side-entered Sell t listed)
 
   accounts-added : (s : Session) (deals : List Deal) → Accounts d deals → Accounts (withTotals d s totals) (deals ++ map (dealOf d) ts)
   accounts-added s deals so-far = record {
@@ -198,6 +200,15 @@ module _ (d : Desk) (sound : SoundDesk d) (ts : List Trade) (rows : Between d ts
     others = λ i j hi hj out. cell-added i j hi hj ∙ omega (arith, so-far .others i j hi hj out, of-others i j out);
     dealers = λ x m. ⊎-elim (so-far .dealers x) (both-entered x) (List·Memᴰ·append-cases deals m);
   }
+
+-- an order that rests has a member that is entered
+resting-entered : (d : Desk) → SoundDesk d → (o : Resting) → o ∈ resting (d .session .book) → rowOfOrder d (o .number) < d .count
+resting-entered d sound o rests =
+    let b = d .session .book in
+    let at = resting-elim b places rests in
+    let (row, below) = sound .rows-known (at .place) (at .below) (at .taken) in
+    let member = member-of (resting b) (resting-distinct (legalPrice (d .session)) (d .session .given) b (sound .inner .book-sound)) o rests in
+    omega (arith, ap (rowIn d) member, ap (λ (y : Resting). rowIn d (y .member)) (at .is), row, below, known-length d sound)
 
 -- ---- what an auction lists: trades of orders in the book, of its quantity, and only with outcome 1
 module _ (d : Desk) (sound : SoundDesk d) (which : ℕ) (list : List ℕ) where
@@ -239,15 +250,8 @@ module _ (d : Desk) (sound : SoundDesk d) (which : ℕ) (list : List ℕ) where
     -- each side is an order that rests, whose member is entered
     order-entered : Between d (tradesListed l)
     order-entered side t m =
-        let b = d .session .book in
         let (o, takes, accepts, named) = written .within-limits .parties side t m in
-        let rests = takingPart-elim (asked .0) (resting b) takes .0 in
-        let at = resting-elim b places rests in
-        let (row, below) = sound .rows-known (at .place) (at .below) (at .taken) in
-        let member : memberOf (resting b) (party side t) ≡ getD (b .member) (at .place) 0 =
-            ap (memberOf (resting b)) named ∙ member-of (resting b) (resting-distinct (legalPrice (d .session)) (d .session .given) b (sound .inner .book-sound)) o rests
-            ∙ ap (λ (y : Resting). y .member) (at .is) in
-        omega (arith, ap (rowIn d) member, row, below, known-length d sound)
+        rw named (resting-entered d sound o (takingPart-elim (asked .0) (resting (d .session .book)) takes .0))
 
   between-entered : Between d (tradesListed l)
   between-entered = ⊎-elim (λ (z, one). order-entered z one) (λ (none, q). rw none (λ side t m. absurd (List·Memᴰ·not-nil m))) one-or-none
@@ -301,40 +305,53 @@ owes d sound deals a = record {
   traders = λ x m. let (b, s) = a .dealers x m in (row-of-entered d sound (x .buyer) b, row-of-entered d sound (x .seller) s);
 }
 
+-- A3 and A6 of a desk: a fresh one is sound and every call hands it on, so every desk that can be reached is sound.
+acted-sound : (d : Desk) (c : Act) → SoundDesk d → SoundDesk (acted d c)
+acted-sound d (Act.start x) sound = started-desk-sound d x sound
+acted-sound d (Act.order e) sound = entered-desk-sound d e sound
+acted-sound d (Act.delete number member) sound = deleted-desk-sound d number member sound
+acted-sound d (Act.quote e) sound = quoted-desk-sound d e sound
+acted-sound d (Act.auction which list) sound = auctioned-desk-sound d which list sound
+
+pub handed-on : (d : Desk) (c : Call) → SoundDesk d → SoundDesk (after d c)
+handed-on d (Call.act c) sound = acted-sound d c sound
+handed-on d (Call.look l) sound = sound
+
+run-sound : (d : Desk) (cs : List Call) → SoundDesk d → SoundDesk (run d cs)
+run-sound d [] sound = sound
+run-sound d (c ∷ cs) sound = run-sound (after d c) cs (handed-on d c sound)
+
+pub reached-is-sound : (cs : List Call) → SoundDesk (run freshDesk cs)
+reached-is-sound cs = run-sound freshDesk cs fresh-desk-sound
+
+run-accounts : (d : Desk) (cs : List Call) → SoundDesk d → (deals : List Deal) → Accounts d deals → Accounts (run d cs) (deals ++ dealsSoFar d cs)
+run-accounts d [] sound deals so-far = rw (append-nil deals) so-far
+run-accounts d (c ∷ cs) sound deals so-far =
+    let later = handed-on d c sound in
+    subst (Accounts (run (after d c) cs)) (append-assoc deals (dealt d c) (dealsSoFar (after d c) cs))
+    (run-accounts (after d c) cs later (deals ++ dealt d c) (one-call d sound c later deals so-far))
+
 no-cell : (cells : List ℕ) (cell : ℕ) → total cells ≤ 0 → getD cells cell 0 ≡ 0
 no-cell cells cell h = omega (arith, cell-le-total cell cells)
 
--- Every desk that can be reached is sound: a fresh one is, and every call hands it on.
-module _ (fresh-desk-sound : SoundDesk freshDesk) (handed-on : (d : Desk) (c : Call) → SoundDesk d → SoundDesk (after d c)) where
-  run-sound : (d : Desk) (cs : List Call) → SoundDesk d → SoundDesk (run d cs)
-  run-sound d [] sound = sound
-  run-sound d (c ∷ cs) sound = run-sound (after d c) cs (handed-on d c sound)
+fresh-accounts : Accounts freshDesk []
+fresh-accounts = record {
+  cells = λ i j hi hj. absurd (omega arith);
+  others = λ i j hi hj out. no-cell (freshDesk .totals) (cellOf i j) (fresh-desk-sound .within);
+  dealers = λ x m. absurd (List·Memᴰ·not-nil m);
+}
 
-  run-accounts : (d : Desk) (cs : List Call) → SoundDesk d → (deals : List Deal) → Accounts d deals → Accounts (run d cs) (deals ++ dealsSoFar d cs)
-  run-accounts d [] sound deals so-far = rw (append-nil deals) so-far
-  run-accounts d (c ∷ cs) sound deals so-far =
-      let later = handed-on d c sound in
-      subst (Accounts (run (after d c) cs)) (append-assoc deals (dealt d c) (dealsSoFar (after d c) cs))
-      (run-accounts (after d c) cs later (deals ++ dealt d c) (one-call d sound c later deals so-far))
+-- K5a. At every moment the square equals the sum worked out from the list of all trades so far.
+pub who-owes-whom : (cs : List Call) → Owes (run freshDesk cs) (dealsSoFar freshDesk cs)
+who-owes-whom cs = owes (run freshDesk cs) (reached-is-sound cs) (dealsSoFar freshDesk cs) (run-accounts freshDesk cs fresh-desk-sound [] fresh-accounts)
 
-  fresh-accounts : Accounts freshDesk []
-  fresh-accounts = record {
-    cells = λ i j hi hj. absurd (omega arith);
-    others = λ i j hi hj out. no-cell (freshDesk .totals) (cellOf i j) (fresh-desk-sound .within);
-    dealers = λ x m. absurd (List·Memᴰ·not-nil m);
-  }
+run-total : (d : Desk) (cs : List Call) → SoundDesk d → total (run d cs .totals) ≡ total (d .totals) + tradedSoFar d cs
+run-total d [] sound = omega arith
+run-total d (c ∷ cs) sound = run-total (after d c) cs (handed-on d c sound) ∙ omega (arith, one-total d sound c)
 
-  -- K5a. At every moment the square equals the sum worked out from the list of all trades so far.
-  pub who-owes-whom : (cs : List Call) → Owes (run freshDesk cs) (dealsSoFar freshDesk cs)
-  who-owes-whom cs = owes (run freshDesk cs) (run-sound freshDesk cs fresh-desk-sound) (dealsSoFar freshDesk cs) (run-accounts freshDesk cs fresh-desk-sound [] fresh-accounts)
+nothing-yet : (m n k : ℕ) → n ≤ 0 → m ≡ n + k → m ≡ k
+nothing-yet m n k h e = omega arith
 
-  run-total : (d : Desk) (cs : List Call) → SoundDesk d → total (run d cs .totals) ≡ total (d .totals) + tradedSoFar d cs
-  run-total d [] sound = omega arith
-  run-total d (c ∷ cs) sound = run-total (after d c) cs (handed-on d c sound) ∙ omega (arith, one-total d sound c)
-
-  nothing-yet : (m n k : ℕ) → n ≤ 0 → m ≡ n + k → m ≡ k
-  nothing-yet m n k h e = omega arith
-
-  -- K5b. All cells together equal the sum of the quantities of all auctions of outcome 1.
-  pub all-cells-together : (cs : List Call) → total (run freshDesk cs .totals) ≡ tradedSoFar freshDesk cs
-  all-cells-together cs = nothing-yet _ (total (freshDesk .totals)) _ (fresh-desk-sound .within) (run-total freshDesk cs fresh-desk-sound)
+-- K5b. All cells together equal the sum of the quantities of all auctions of outcome 1.
+pub all-cells-together : (cs : List Call) → total (run freshDesk cs .totals) ≡ tradedSoFar freshDesk cs
+all-cells-together cs = nothing-yet _ (total (freshDesk .totals)) _ (fresh-desk-sound .within) (run-total freshDesk cs fresh-desk-sound)

@@ -1,19 +1,19 @@
 -- A cell after trades: what it had, and the quantities of those whose sides have its two rows.
-use Prim.Native.Nat.{ℕ, zero, suc, _+_, _≤_, _<_}
-use mathlib.Core.Bool.{Bool, true, false, cond, _&&_}
+use Prim.Native.Nat.{ℕ, zero, suc, _+_, _<_}
+use mathlib.Core.Bool.{Bool, true, false, _&&_}
 use mathlib.Core.Logic.{⊎-elim, _≢_}
-use mathlib.Core.Path.{_≡_, refl, sym, ap, _∙_}
+use mathlib.Core.Path.{_≡_, refl, sym, _∙_}
 use mathlib.Core.List.{List, [], _∷_, List·Memᴰ·head, List·Memᴰ·tail}
 use native.Mathlib.Omega.{arith}
 use borrow.Author.Tests.{eqb-true, eqb-false}
-use lib.Dec.{T, eqb, ltb}
+use lib.Dec.{eqb, ltb}
 use lib.ListN.{length, getD, List·getD-append}
 use lib.Seq.{getD-set-same, getD-set-other, getD-at}
 use Rattle.lists.specs.Tests.{tests, decided}
 use Rattle.lists.specs.Sums.{_∈_, counted, sum}
 use Rattle.trades.specs.declared.{Trade.Trade}
 use Rattle.trades.specs.Trades.{volume}
-use Rattle.squares.specs.Square.{squareMembers, squareCells, rowOf, cellOf, rowAt, rowsTo, squareOf, total, addedAt, addedTo, added-length, added-total, rows-length, cell-in-row}
+use Rattle.squares.specs.Square.{squareMembers, squareCells, cellOf, rowAt, rowsTo, squareOf, total, addedAt, addedTo, added-length, added-total, rows-length, cell-in-row}
 
 -- two rows of the square have a cell, and no other two have it
 pub cell-below : (i j : ℕ) → i < squareMembers → j < squareMembers → cellOf i j < squareCells
@@ -82,20 +82,3 @@ row-of-rows (suc n) i cells h =
 
 pub cell-handed-out : (cells : List ℕ) (i j : ℕ) → i < squareMembers → j < squareMembers → getD (getD (squareOf cells) i []) j 0 ≡ getD cells (cellOf i j) 0
 cell-handed-out cells i j h k = rw (row-of-rows squareMembers i cells h) (cell-in-row cells i j k)
-
--- ---- the row of a member: it is there, or behind all
-pub row-at-most : (xs : List ℕ) (m : ℕ) → rowOf xs m ≤ length xs
-row-at-most [] m = omega arith
-row-at-most (x ∷ xs) m = go (eqb x m) (row-at-most xs m)
-  where
-    go : (t : Bool) → rowOf xs m ≤ length xs → cond t 0 (suc (rowOf xs m)) ≤ suc (length xs)
-    go true h = omega arith
-    go false h = omega arith
-
-pub row-holds : (xs : List ℕ) (m : ℕ) → rowOf xs m < length xs → getD xs (rowOf xs m) 0 ≡ m
-row-holds [] m h = absurd (omega arith)
-row-holds (x ∷ xs) m h = go (eqb x m) refl h (row-holds xs m)
-  where
-    go : (t : Bool) → eqb x m ≡ t → cond t 0 (suc (rowOf xs m)) < suc (length xs) → (rowOf xs m < length xs → getD xs (rowOf xs m) 0 ≡ m) → getD (x ∷ xs) (cond t 0 (suc (rowOf xs m))) 0 ≡ m
-    go true e h below = eqb-true x m e
-    go false e h below = below (omega arith)
