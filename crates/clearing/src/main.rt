@@ -72,19 +72,15 @@ fn walk(input: &mut [u8], out: &mut [u8]) -> Desk
 {
     let mut list = [0u32; Session::TRADE_LIST];
     let mut desk = Desk::fresh();
-    let mut held = Held {
-        from: 0,
-        to: 0,
-        ended: false,
-    };
+    let mut from: usize = 0;
+    let mut to: usize = 0;
+    let mut ended = false;
     let mut count: u64 = 0;
     let mut at: usize = 0;
     let mut left = MOST_TURNS;
     while left > 0 {
         left -= 1;
-        let from = held.from;
-        let to = held.to;
-        let next = next_told(&input[..to], from, held.ended, out.len() - at);
+        let next = next_told(&input[..to], from, ended, out.len() - at);
         match next {
             Next::Record(record, behind) => {
                 count += 1;
@@ -92,11 +88,7 @@ fn walk(input: &mut [u8], out: &mut [u8]) -> Desk
                 let later = r.desk;
                 desk = later;
                 at = r.at;
-                held = Held {
-                    from: behind,
-                    to,
-                    ended: held.ended,
-                };
+                from = behind;
             }
             Next::Stop(stop) => match stop {
                 Stop::Full => {
@@ -104,7 +96,10 @@ fn walk(input: &mut [u8], out: &mut [u8]) -> Desk
                     at = 0;
                 }
                 Stop::Waits => {
-                    held = read_behind(input, held);
+                    let held = read_behind(input, Held { from, to, ended });
+                    from = held.from;
+                    to = held.to;
+                    ended = held.ended;
                 }
                 Stop::Fault => {
                     let end = last_lines(out, at, count, stop);

@@ -54,7 +54,8 @@ pub(crate) fn show_owed(out: &mut [u8], desk: Desk)
     let mut row: usize = 0;
     while row < MEMBERS {
         let cells = owed[row];
-        at = put_row(out, at, &members, members[row], &cells);
+        let buyer = members[row];
+        at = put_row(out, at, &members, buyer, &cells);
         row += 1;
     }
     let numbers = [total_of(&desk.totals)];

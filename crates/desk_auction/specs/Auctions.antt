@@ -1,6 +1,7 @@
 -- The auction of a desk (02 K5): the session's, and its trades in their cells.
 use Prim.Native.Nat.{ℕ}
 use mathlib.Core.Bool.{cond}
+use mathlib.Core.Path.{_≡_, ap}
 use mathlib.Core.List.{List, [], _∷_}
 use lib.Dec.{eqb}
 use Rattle.terms.specs.Orders.{Resting}
@@ -47,3 +48,9 @@ clearedBy d l = record {
 
 unfoldable pub auctioned : Desk → ℕ → List ℕ → AuctionLeaves
 auctioned d which list = clearedBy d (plain.auctioned (d .session) which list)
+
+-- what a desk's auction leaves is what the session's leaves
+pub plain-leaves : (d : Desk) (which : ℕ) (list : List ℕ) (r : Auctioned) (left : List ℕ) → auctionLeaves r left ≡ auctioned d which list
+    → plain.auctionLeaves (record { answer = r .answer; result = r .result; session = r .desk .session }) left ≡ plain.auctioned (d .session) which list
+unfolding auctioned
+plain-leaves d which list r left e = ap (λ (l : AuctionLeaves). plain.auctionLeaves (record { answer = l .returned .answer; result = l .returned .result; session = l .returned .desk .session }) (l .list)) e

@@ -51,7 +51,7 @@ pub next-record : (bytes : List ℕ) (place : ℕ) (ended : Bool) (room : ℕ) {
 next-record bytes place ended room e = subst (λ (f : Next). Fronts bytes place room f) e (fronts bytes place ended room)
 
 -- none is next: there is room for the last lines, and a fault stands before the end
-next-stop : (bytes : List ℕ) (place : ℕ) (ended : Bool) (room : ℕ) {why : Stop} → nextTold bytes place ended room ≡ Next.Stop why → place ≤ length bytes
+pub next-stop : (bytes : List ℕ) (place : ℕ) (ended : Bool) (room : ℕ) {why : Stop} → nextTold bytes place ended room ≡ Next.Stop why → place ≤ length bytes
     → (place + faults why ≤ length bytes) × (lastRoom why ≤ room)
 next-stop bytes place ended room {why} e h = let f = subst (λ (f : Next). Fronts bytes place room f) e (fronts bytes place ended room) in (f .0 h, f .1)
 

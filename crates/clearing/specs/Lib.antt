@@ -1,0 +1,2 @@
+-- The clearing program: what its writing keeps to.
+pub mod Within
