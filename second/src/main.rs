@@ -1,17 +1,20 @@
 //! Reads a session file on standard input and prints what happened, by the rules of 01:
 //!
-//!     second [--looks | --rewrite]
+//!     second [--looks | --rewrite | --clearing]
 //!
 //! With --looks it prints what the calls that change nothing answer meanwhile, see looks.rs; with
-//! --rewrite the file's records, written anew, see rewrite.rs.
-//! Comments cite the sections of 01, and the requests of 02 by K and number. Every number is a u64: the largest products are near
-//! 10^15 and the largest sum is that of 512 quantities, so nothing overflows. The entries of
-//! a filled front are the exception: they are summed as u128.
+//! --rewrite the file's records, written anew, see rewrite.rs; with --clearing what happened in a
+//! session that keeps the square, and behind it who owes whom, see clearing.rs.
+//! Comments cite the sections of 01, and the requests of 02 by K and number. Every number is a u64:
+//! the largest products are near 10^15 and the largest sums are those of 512 quantities and, K5, of
+//! the trades of two auctions, so nothing overflows. The entries of a filled front are the
+//! exception: they are summed as u128.
 
 use std::cmp::{min, Ordering};
 use std::io::{self, Read, Write};
 use std::ops::RangeInclusive;
 
+mod clearing;
 mod looks;
 mod rewrite;
 #[cfg(test)]
@@ -179,6 +182,8 @@ struct Session {
     delay_spent: bool,
     numbers_given: u64,
     book: Vec<Option<Order>>,
+    /// K5: who owes whom, in a session that keeps it.
+    square: Option<clearing::Square>,
 }
 
 impl Session {
@@ -194,6 +199,7 @@ impl Session {
             delay_spent: false,
             numbers_given: 0,
             book: vec![None; PLACES],
+            square: None,
         }
     }
 
@@ -208,7 +214,7 @@ impl Session {
         Ok(())
     }
 
-    /// "Order of checks", order: 1, 2, 4, 5, 6, 7, 8, 9, 10. Answers the number given.
+    /// "Order of checks", order: 1, 2, 4, 5, 6, 7, 8, 16 (K5), 9, 10. Answers the number given.
     fn order(&mut self, fields: [u64; 5]) -> Result<u64, Refusal> {
         let (side, limit) = check_order(fields)?;
         let [member, _, validity, quantity, _] = fields;
@@ -223,6 +229,7 @@ impl Session {
             refuse(7, self.too_large(quantity, limit))?;
         }
         refuse(8, self.too_large(quantity, self.start_reference))?;
+        refuse(16, self.shut_out(member))?;
         refuse(9, self.numbers_given == *ORDER_NUMBER.end())?;
         refuse(10, self.book.iter().all(Option::is_some))?;
         let (number, open, quote_side) = (self.numbers_given + 1, quantity, false);
@@ -230,8 +237,8 @@ impl Session {
         Ok(number)
     }
 
-    /// K2, "Order of checks" of a quote: 1, 13, 2, 4, 5, 6, 7, 8, 9, 10. Answers the numbers given
-    /// to the bid and to the ask.
+    /// K2, "Order of checks" of a quote: 1, 13, 2, 4, 5, 6, 7, 8, 16 (K5), 9, 10. Answers the
+    /// numbers given to the bid and to the ask.
     fn quote(&mut self, fields: [u64; 5]) -> Result<[u64; 2], Refusal> {
         check_quote(fields)?;
         let [member, bid_quantity, bid_limit, ask_quantity, ask_limit] = fields;
@@ -253,6 +260,7 @@ impl Session {
         for (_, quantity, _) in sides {
             refuse(8, self.too_large(quantity, self.start_reference))?;
         }
+        refuse(16, self.shut_out(member))?;
         // K2: 9 when fewer than two numbers are left.
         refuse(9, self.numbers_given + 2 > *ORDER_NUMBER.end())?;
         // K2: 10 when fewer than two places would be free once the old quote's rests are gone.
@@ -288,11 +296,19 @@ impl Session {
         quantity * price >= self.maximum
     }
 
+    /// Refusal 16 (K5): only in a session that keeps the square.
+    fn shut_out(&self, member: u64) -> bool {
+        self.square.as_ref().is_some_and(|square| square.shuts_out(member))
+    }
+
     /// "Numbers and their bounds": an accepted order takes the lowest free place.
     fn enter(&mut self, order: Order) {
         let free = self.book.iter_mut().find(|place| place.is_none());
         *free.expect("check 10 found a free place") = Some(order);
         self.numbers_given = order.number;
+        if let Some(square) = &mut self.square {
+            square.enter(order.member);
+        }
     }
 
     /// "Order of checks", delete: 1, 2, 11. Allowed in every started phase.
@@ -363,6 +379,10 @@ impl Session {
     /// "Outcomes" 1 and 2: trades, rests that are deleted by validity, and the next phase.
     fn carry_out(&mut self, auction: Auction, answer: &Answer) {
         if answer.outcome == TRADES {
+            // K5: before the orders that are filled leave the book.
+            if let Some(square) = &mut self.square {
+                square.add(&self.book, answer);
+            }
             self.take_off(&answer.trades);
             // The price becomes the reference price in force; K4: the start's stays.
             self.reference = answer.price;
@@ -639,10 +659,14 @@ fn answer(session: &mut Session, record: &Record) -> String {
 
 /// "Session file": the lines of a whole file; a fault ends them and isn't counted.
 fn run(file: &[u8]) -> String {
+    run_in(&mut Session::fresh(), file)
+}
+
+fn run_in(session: &mut Session, file: &[u8]) -> String {
     let (records, fault) = walk(file);
-    let (mut session, mut lines, answered) = (Session::fresh(), String::new(), records.len());
+    let (mut lines, answered) = (String::new(), records.len());
     for (place, record) in (1..).zip(&records) {
-        lines += &format!("{place} {}", answer(&mut session, record));
+        lines += &format!("{place} {}", answer(session, record));
     }
     if fault {
         lines += &format!("{} fault 1\n", answered + 1);
@@ -650,7 +674,7 @@ fn run(file: &[u8]) -> String {
     lines + &format!("end {answered}\n")
 }
 
-/// With an option the first so many bytes of the input are taken for the whole file.
+/// With --looks and --rewrite the first so many bytes of the input are taken for the whole file.
 const LONGEST: u64 = 65_536;
 
 fn main() -> io::Result<()> {
@@ -667,6 +691,10 @@ fn main() -> io::Result<()> {
         Some("--rewrite") => {
             io::stdin().take(LONGEST).read_to_end(&mut file)?;
             rewrite::rewrite(&file)
+        }
+        Some("--clearing") => {
+            io::stdin().read_to_end(&mut file)?;
+            clearing::clearing(&file).into_bytes()
         }
         Some(word) => return Err(io::Error::other(format!("no option {word}"))),
     };

@@ -1,5 +1,6 @@
 //! Session files built in memory; the expected lines are worked out by hand from 01.
 
+use super::clearing::{clearing, keeping_the_square};
 use super::looks::looks;
 use super::rewrite::{rewrite, write};
 use super::*;
@@ -1730,4 +1731,627 @@ fn closing_candidate_is_the_reference_in_force() {
     check_closing(500_000, &orders, [1, 500_000, 60, 1], "3 4 60");
     let orders = [day(BUY, 60, 600_000), day(SELL, 100, UNLIMITED)];
     check_closing(20_000, &orders, [1, 20_000, 60, 1], "3 4 60");
+}
+
+/// K5: runs the records in a session that keeps the square, and compares whole.
+fn check_clearing(records: &[Vec<u8>], expected: &[&str]) {
+    assert_eq!(clearing(&records.concat()), expected.join("\n") + "\n");
+}
+
+/// Runs the records in such a session and compares the last lines.
+fn check_clearing_ends(records: &[Vec<u8>], expected: &[&str]) {
+    let lines = clearing(&records.concat());
+    assert!(lines.ends_with(&(String::from("\n") + &expected.join("\n") + "\n")), "{lines}");
+}
+
+/// A day order of 10 that trades with nobody, of the member.
+fn rest_of(member: u16) -> Vec<u8> {
+    order_of(member, BUY, 3, 10, 99_000)
+}
+
+/// A start, and an order of each of so many members, from 1 up: places 2 up, numbers 1 up.
+fn entered(members: u16) -> Vec<Vec<u8>> {
+    [vec![start()], (1..=members).map(rest_of).collect()].concat()
+}
+
+/// The members entered after these records, in order.
+fn members(records: &[Vec<u8>]) -> Vec<u64> {
+    let mut session = keeping_the_square();
+    run_in(&mut session, &records.concat());
+    session.square.unwrap().members
+}
+
+/// The worked example of 01 is of one member, which buys from itself.
+#[test]
+fn member_buys_from_itself() {
+    check_clearing(
+        &[
+            start(),
+            day(BUY, 50, 100_200),
+            day(BUY, 50, 100_400),
+            day(BUY, 50, 100_200),
+            day(SELL, 80, 100_200),
+            auction(OPENING),
+        ],
+        &[
+            "1 start 0",
+            "2 order 0 1",
+            "3 order 0 2",
+            "4 order 0 3",
+            "5 order 0 4",
+            "6 auction 0 1 100200 80 2",
+            "trade 2 4 50",
+            "trade 1 4 30",
+            "end 6",
+            "owes 7 7 80",
+            "total 80",
+        ],
+    );
+    // The bid would meet the ask of its member's old quote, but that one is overwritten.
+    check_clearing_ends(
+        &[start(), quote(99_800, 100_000), quote(100_000, 100_200), auction(OPENING)],
+        &["4 auction 0 2 0 0 0", "end 4", "total 0"],
+    );
+}
+
+/// Rows and columns go by first accepted entry, not by member number, rank or trade.
+#[test]
+fn owes_by_rows_and_columns() {
+    check_clearing(
+        &[
+            start(),
+            // Refused: member 1 isn't entered yet.
+            order_of(1, BUY, 3, 10, 100_050),
+            order_of(65_535, SELL, 3, 30, 100_000),
+            order_of(9, BUY, 3, 20, 100_000),
+            quote_of(1, (40, 100_000), (5, 100_300)),
+            order_of(9, SELL, 3, 15, UNLIMITED),
+            order_of(65_535, BUY, 3, 10, UNLIMITED),
+            order_of(2, SELL, 3, 25, 100_000),
+            auction(OPENING),
+        ],
+        &[
+            "1 start 0",
+            "2 order 5 0",
+            "3 order 0 1",
+            "4 order 0 2",
+            "5 quote 0 3 4",
+            "6 order 0 5",
+            "7 order 0 6",
+            "8 order 0 7",
+            "9 auction 0 1 100000 70 5",
+            "trade 6 5 10",
+            "trade 2 5 5",
+            "trade 2 1 15",
+            "trade 3 1 15",
+            "trade 3 7 25",
+            "end 9",
+            "owes 65535 9 10",
+            "owes 9 65535 15",
+            "owes 9 9 5",
+            "owes 1 65535 15",
+            "owes 1 2 25",
+            "total 70",
+        ],
+    );
+}
+
+/// Both auctions add to a cell; those of another outcome, and refused ones, add nothing.
+#[test]
+fn two_auctions_add_up() {
+    check_clearing(
+        &[
+            start(),
+            order_of(5, BUY, 3, 100, UNLIMITED),
+            order_of(4, SELL, 3, 30, 101_500),
+            auction(OPENING),
+            auction(CLOSING),
+            order_of(3, SELL, 3, 80, 101_600),
+            auction(OPENING),
+            auction(OPENING),
+            auction(OPENING),
+            // 10 are left of the second sell.
+            order_of(4, SELL, 3, 50, 101_500),
+            order_of(5, BUY, 3, 60, 101_600),
+            order_of(3, BUY, 3, 7, 101_500),
+            auction(CLOSING),
+            auction(CLOSING),
+        ],
+        &[
+            "1 start 0",
+            "2 order 0 1",
+            "3 order 0 2",
+            "4 auction 0 3 0 0 0",
+            "5 auction 4 0 0 0 0",
+            "6 order 0 3",
+            "7 auction 0 4 101600 100 0",
+            "8 auction 0 1 101600 100 2",
+            "trade 1 2 30",
+            "trade 1 3 70",
+            "9 auction 4 0 0 0 0",
+            "10 order 0 4",
+            "11 order 0 5",
+            "12 order 0 6",
+            "13 auction 0 1 101600 60 2",
+            "trade 5 4 50",
+            "trade 5 3 10",
+            "14 auction 4 0 0 0 0",
+            "end 14",
+            "owes 5 4 80",
+            "owes 5 3 80",
+            "total 160",
+        ],
+    );
+}
+
+/// What was traded stays in its cell when the orders are gone or the quote is overwritten.
+#[test]
+fn trades_outlive_their_orders() {
+    check_clearing(
+        &[
+            start(),
+            quote_of(8, (100, 100_000), (100, 100_200)),
+            order_of(6, SELL, 3, 30, 100_000),
+            auction(OPENING),
+            quote_of(8, (20, 100_000), (5, 100_100)),
+            order_of(6, SELL, 3, 50, 100_000),
+            order_of(6, BUY, 3, 5, 100_200),
+            auction(CLOSING),
+            delete(4, 8),
+        ],
+        &[
+            "1 start 0",
+            "2 quote 0 1 2",
+            "3 order 0 3",
+            "4 auction 0 1 100000 30 1",
+            "trade 1 3 30",
+            "5 quote 0 4 5",
+            "6 order 0 6",
+            "7 order 0 7",
+            "8 auction 0 1 100000 25 2",
+            "trade 7 6 5",
+            "trade 4 6 20",
+            "9 delete 11",
+            "end 9",
+            "owes 8 6 50",
+            "owes 6 6 5",
+            "total 55",
+        ],
+    );
+}
+
+/// The thirty-third member is refused by 16, by order and by quote, and uses no number.
+#[test]
+fn thirty_third_member() {
+    let more = [
+        rest_of(33),
+        quote_of(33, (10, 99_800), (10, 100_200)),
+        order_of(65_535, SELL, 4, 1, UNLIMITED),
+        rest_of(32),
+    ];
+    check_clearing_ends(
+        &[&entered(32)[..], &more].concat(),
+        &[
+            "33 order 0 32",
+            "34 order 16 0",
+            "35 quote 16 0 0",
+            "36 order 16 0",
+            "37 order 0 33",
+            "end 37",
+            "total 0",
+        ],
+    );
+    // With 31 entered the next one is taken, by order or by quote, and the one after it isn't.
+    for (entry, line) in [
+        (rest_of(100), "33 order 0 32"),
+        (quote_of(100, (10, 99_800), (10, 100_200)), "33 quote 0 32 33"),
+    ] {
+        check_clearing_ends(
+            &[&entered(31)[..], &[entry, rest_of(32)]].concat(),
+            &[line, "34 order 16 0", "end 34", "total 0"],
+        );
+    }
+    // 32 members by quotes alone: the two sides enter their member once.
+    let quote_of = |member| quote_of(member, (10, 99_800), (10, 100_200));
+    let quotes: Vec<Vec<u8>> = (1..=33).map(quote_of).collect();
+    check_clearing_ends(
+        &[&[start()], &quotes[..], &[quote_of(32)]].concat(),
+        &["33 quote 0 63 64", "34 quote 16 0 0", "35 quote 0 65 66", "end 35", "total 0"],
+    );
+}
+
+/// A session that doesn't keep the square has no 16; else the lines are the same.
+#[test]
+fn no_16_in_a_plain_session() {
+    let more = [rest_of(33), quote_of(34, (10, 99_800), (10, 100_200)), rest_of(1)];
+    let file = [&entered(32)[..], &more].concat().concat();
+    let lines = run(&file);
+    assert!(lines.ends_with("\n34 order 0 33\n35 quote 0 34 35\n36 order 0 36\nend 36\n"));
+    // With no more than 32 members nothing but the lines behind the end is added.
+    let file = entered(32).concat();
+    assert_eq!(clearing(&file), run(&file) + "total 0\n");
+}
+
+/// Members that are entered go on when 32 are: orders, quotes, and trades with each other.
+#[test]
+fn entered_members_go_on() {
+    let more = [
+        order_of(1, SELL, 3, 20, 100_000),
+        quote_of(32, (10, 100_000), (10, 100_200)),
+        order_of(33, BUY, 3, 10, 100_000),
+        quote_of(32, (15, 100_000), (10, 100_200)),
+        order_of(17, BUY, 3, 5, 100_000),
+        auction(OPENING),
+        order_of(33, BUY, 3, 10, 100_000),
+        rest_of(2),
+        auction(CLOSING),
+    ];
+    check_clearing_ends(
+        &[&entered(32)[..], &more].concat(),
+        &[
+            "34 order 0 33",
+            "35 quote 0 34 35",
+            "36 order 16 0",
+            "37 quote 0 36 37",
+            "38 order 0 38",
+            "39 auction 0 1 100000 20 2",
+            "trade 36 33 15",
+            "trade 38 33 5",
+            "40 order 16 0",
+            "41 order 0 39",
+            "42 auction 0 2 0 0 0",
+            "end 42",
+            "owes 17 1 5",
+            "owes 32 1 15",
+            "total 20",
+        ],
+    );
+}
+
+/// A member whose only order was deleted, or left by its validity, keeps its row.
+#[test]
+fn deleted_members_stay() {
+    let mut records = entered(32);
+    records.extend((1..=32).map(|number| delete(number, number as u16)));
+    records.extend([
+        rest_of(33),
+        rest_of(1),
+        order_of(2, BUY, 1, 1, 99_000),
+        delete(33, 1),
+        auction(OPENING),
+        rest_of(33),
+        rest_of(2),
+    ]);
+    check_clearing_ends(
+        &records,
+        &[
+            "65 delete 0",
+            "66 order 16 0",
+            "67 order 0 33",
+            "68 order 0 34",
+            "69 delete 0",
+            "70 auction 0 2 0 0 0",
+            "71 order 16 0",
+            "72 order 0 35",
+            "end 72",
+            "total 0",
+        ],
+    );
+    // It keeps its turn too: member 9 comes back behind member 3 and is still the first.
+    let records = [
+        start(),
+        rest_of(9),
+        delete(1, 9),
+        order_of(3, SELL, 3, 10, 100_000),
+        order_of(9, BUY, 3, 4, 100_000),
+        order_of(3, BUY, 3, 6, 100_000),
+        auction(OPENING),
+    ];
+    check_clearing_ends(
+        &records,
+        &["trade 3 2 4", "trade 4 2 6", "end 7", "owes 9 3 4", "owes 3 3 6", "total 10"],
+    );
+    assert_eq!(members(&records), [9, 3]);
+}
+
+/// A refused entry enters nobody, whatever refuses it; nor does another record.
+#[test]
+fn refused_entries_enter_nobody() {
+    let refused = |member| {
+        [
+            order_of(member, BUY, 3, 0, 100_000),
+            order_of(member, BUY, 3, 1, 100_050),
+            order_of(member, BUY, 3, 1, 900_000),
+            order_of(member, BUY, 3, 5_000_000, 200_000),
+            order_of(member, BUY, 3, 10_000_000, UNLIMITED),
+            quote_of(member, (1, 99_800), (1, 0)),
+            quote_of(member, (1, 99_800), (1, 99_800)),
+            quote_of(member, (1, 99_800), (1, 99_850)),
+            quote_of(member, (1, 99_800), (1, 900_000)),
+            quote_of(member, (1, 99_800), (5_000_000, 200_000)),
+            quote_of(member, (1, 99_800), (10_000_000, 99_900)),
+            delete(1, member),
+            delete(0, member),
+        ]
+    };
+    // Before the start, behind it, and when closed; 4 by validity in day, too.
+    let mut records = [vec![rest_of(100), quote_of(101, (1, 1), (1, 2))], entered(1)].concat();
+    records.extend((200..300).flat_map(refused));
+    records.extend([auction(OPENING), order_of(300, BUY, 1, 1, 99_000), rest_of(2)]);
+    assert_eq!(members(&records), [1, 2]);
+    records.extend((3..=32).map(rest_of));
+    records.extend([rest_of(33), rest_of(100), rest_of(300)]);
+    assert_eq!(members(&records), (1..=32).collect::<Vec<_>>());
+    let closed = [start(), auction(OPENING), auction(CLOSING), rest_of(7), quote(99_800, 99_900)];
+    assert_eq!(members(&closed), []);
+    // A full book refuses by 10, and enters nobody; a freed place enters.
+    let mut records = vec![start()];
+    records.extend(vec![rest_of(7); 512]);
+    records.extend([rest_of(8), quote_of(8, (1, 99_800), (1, 99_900)), delete(1, 7)]);
+    records.push(quote_of(8, (1, 99_800), (1, 99_900)));
+    assert_eq!(members(&records), [7]);
+    records.push(rest_of(9));
+    assert_eq!(members(&records), [7, 9]);
+}
+
+/// K5: 16 stands behind 8. Each entry of a thirty-third member that another number would refuse.
+#[test]
+fn checks_before_16() {
+    let (first, second) = (order_of(33, BUY, 3, 0, 1), quote_of(33, (1, 200), (1, 100)));
+    let more = [
+        first.clone(),
+        order_of(33, BUY, 3, 1, 100_050),
+        order_of(33, BUY, 3, 1, 900_000),
+        order_of(33, BUY, 3, 5_000_000, 200_000),
+        order_of(33, BUY, 3, 10_000_000, 99_900),
+        order_of(33, BUY, 3, 10_000_000, UNLIMITED),
+        order_of(33, BUY, 3, 9_999_999, UNLIMITED),
+        quote_of(33, (1, 0), (1, 100)),
+        second.clone(),
+        quote_of(33, (1, 99_800), (1, 99_850)),
+        quote_of(33, (1, 11_100), (1, 99_900)),
+        quote_of(33, (1, 99_800), (5_000_000, 200_000)),
+        quote_of(33, (10_000_000, 99_800), (1, 99_900)),
+        quote_of(33, (1, 99_800), (10_000_000, 99_900)),
+        quote_of(33, (9_999_999, 99_800), (9_999_999, 99_900)),
+        auction(OPENING),
+        order_of(33, BUY, 1, 1, 99_000),
+        order_of(33, BUY, 2, 1, 99_000),
+        auction(CLOSING),
+        first,
+        second,
+        rest_of(33),
+        quote_of(33, (1, 99_800), (1, 99_900)),
+    ];
+    check_clearing_ends(
+        &[&entered(32)[..], &more].concat(),
+        &[
+            "34 order 1 0",
+            "35 order 5 0",
+            "36 order 6 0",
+            "37 order 7 0",
+            "38 order 8 0",
+            "39 order 8 0",
+            "40 order 16 0",
+            "41 quote 1 0 0",
+            "42 quote 13 0 0",
+            "43 quote 5 0 0",
+            "44 quote 6 0 0",
+            "45 quote 7 0 0",
+            "46 quote 8 0 0",
+            "47 quote 8 0 0",
+            "48 quote 16 0 0",
+            "49 auction 0 2 0 0 0",
+            "50 order 4 0",
+            "51 order 16 0",
+            "52 auction 0 2 0 0 0",
+            "53 order 1 0",
+            "54 quote 13 0 0",
+            "55 order 4 0",
+            "56 quote 4 0 0",
+            "end 56",
+            "total 0",
+        ],
+    );
+}
+
+/// K5: 16 stands before 10, in a full book and, for a quote, in one with one free place.
+#[test]
+fn sixteen_before_10() {
+    let mut records = entered(32);
+    records.extend(vec![rest_of(1); 479]);
+    let (order, quote) = (rest_of, |member| quote_of(member, (1, 99_800), (1, 99_900)));
+    records.extend([quote(33), quote(32), order(33), order(32), order(33), quote(33)]);
+    records.extend([order(32), quote(32)]);
+    check_clearing_ends(
+        &records,
+        &[
+            "512 order 0 511",
+            "513 quote 16 0 0",
+            "514 quote 10 0 0",
+            "515 order 16 0",
+            "516 order 0 512",
+            "517 order 16 0",
+            "518 quote 16 0 0",
+            "519 order 10 0",
+            "520 quote 10 0 0",
+            "end 520",
+            "total 0",
+        ],
+    );
+}
+
+/// K5: 16 stands before 9, with one number left and with none.
+#[test]
+fn sixteen_before_9() {
+    let mut file = start();
+    let (order, quote) = (rest_of, |member| quote_of(member, (1, 99_800), (1, 99_900)));
+    for turn in 0..499_999u32 {
+        file.extend(quote(1 + (turn % 32) as u16));
+    }
+    for more in [order(1), quote(33), quote(1), order(33), order(2), order(33), quote(33)] {
+        file.extend(more);
+    }
+    file.extend([order(2), quote(2)].concat());
+    assert!(clearing(&file).ends_with(
+        "\n500001 order 0 999999\n500002 quote 16 0 0\n500003 quote 9 0 0\n500004 order 16 0\n\
+         500005 order 0 1000000\n500006 order 16 0\n500007 quote 16 0 0\n500008 order 9 0\n\
+         500009 quote 9 0 0\nend 500009\ntotal 0\n"
+    ));
+}
+
+/// The lines come also after a fault; what stands behind it isn't read.
+#[test]
+fn owes_after_a_fault() {
+    check_clearing(&[], &["end 0", "total 0"]);
+    check_clearing(&[vec![5, 0, 4, 0]], &["1 fault 1", "end 0", "total 0"]);
+    check_clearing(
+        &[
+            start(),
+            order_of(8, SELL, 3, 12, 100_000),
+            order_of(7, BUY, 3, 10, 100_000),
+            auction(OPENING),
+            record(9, &[]),
+            order_of(7, BUY, 3, 2, 100_000),
+            auction(CLOSING),
+        ],
+        &[
+            "1 start 0",
+            "2 order 0 1",
+            "3 order 0 2",
+            "4 auction 0 1 100000 10 1",
+            "trade 2 1 10",
+            "5 fault 1",
+            "end 4",
+            "owes 7 8 10",
+            "total 10",
+        ],
+    );
+}
+
+/// Orders and no trade: no cell, and a total of 0.
+#[test]
+fn nothing_traded() {
+    check_clearing(
+        &[start(), day(BUY, 10, 99_900), order_of(8, SELL, 3, 10, 100_000), auction(OPENING)],
+        &["1 start 0", "2 order 0 1", "3 order 0 2", "4 auction 0 2 0 0 0", "end 4", "total 0"],
+    );
+    // A delayed opening has a quantity, and trades nothing.
+    check_clearing_ends(
+        &[start(), day(BUY, 10, 101_500), day(SELL, 10, 101_500), auction(OPENING)],
+        &["4 auction 0 4 101500 10 0", "end 4", "total 0"],
+    );
+}
+
+/// All of a full book traded twice, in 256 cells: the largest total.
+#[test]
+fn largest_square() {
+    let mut file = start_with(1_000_000, 100_000_000, 999, 9_999, 1_000_000_000_000_000);
+    for which in [OPENING, CLOSING] {
+        for turn in 0..256 {
+            file.extend(order_of(1 + turn % 32, BUY, 3, 9_999_999, UNLIMITED));
+            file.extend(order_of(1 + turn / 8, SELL, 3, 9_999_999, UNLIMITED));
+        }
+        file.extend(auction(which));
+    }
+    let lines = clearing(&file);
+    // Seller 1 has the turns 0 to 7, and so the buyers 1 to 8; seller 4 has 24 to 31.
+    assert!(lines.contains("\nend 1027\nowes 1 1 19999998\nowes 1 5 19999998\nowes 1 9 "));
+    assert!(lines.contains("\nowes 2 29 19999998\nowes 3 1 19999998\n"));
+    assert!(lines.ends_with("\nowes 32 28 19999998\nowes 32 32 19999998\ntotal 5119999488\n"));
+    assert_eq!(lines.lines().filter(|line| line.starts_with("owes ")).count(), 256);
+    // The most trades of an auction, 511, of one buyer and of 32 sellers in turn.
+    let mut file = [start(), order_of(1, BUY, 3, 511, 100_000)].concat();
+    for turn in 0..511 {
+        file.extend(order_of(1 + turn % 32, SELL, 3, 1, 100_000));
+    }
+    file.extend(auction(OPENING));
+    let lines = clearing(&file);
+    assert!(lines.contains("\nend 514\nowes 1 1 16\nowes 1 2 16\n"));
+    assert!(lines.ends_with("\nowes 1 31 16\nowes 1 32 15\ntotal 511\n"));
+}
+
+/// K5's law at every moment, for any records: each cell is the sum worked out from the lines of the
+/// trades so far, the members and 16 follow from the lines of the entries, and all cells together
+/// are the quantities of the auctions of outcome 1.
+#[test]
+fn square_of_any_records() {
+    let mut seed: u64 = 5;
+    let mut draw = move |below: u64| {
+        seed = seed.wrapping_mul(6364136223846793005).wrapping_add(1442695040888963407);
+        (seed >> 33) % below
+    };
+    let (mut met_16, mut met_cells) = (0, 0);
+    for _ in 0..500 {
+        let (most, mut file) = ([3, 30, 60][draw(3) as usize], start());
+        for _ in 0..draw(200) {
+            let limit = [UNLIMITED, 99_000 + 100 * draw(20) as u32][draw(8).min(1) as usize];
+            let (number, member) = (1 + draw(100) as u32, 1 + draw(most) as u16);
+            file.extend(match draw(60) {
+                0 => auction(1 + draw(2) as u8),
+                1..6 => delete(number, member),
+                6..20 => quote_of(member, (number, limit), (1 + number, limit + 200)),
+                _ => order_of(member, draw(2) as u8 + 1, 1 + draw(4) as u8, number, limit),
+            });
+        }
+        let (mut session, mut owner) = (keeping_the_square(), vec![0; 1_000]);
+        let (mut entered, mut cells, mut total) = (vec![], vec![[0; 61]; 61], 0);
+        for record in walk(&file).0 {
+            let lines = answer(&mut session, &record);
+            for line in lines.lines() {
+                let words: Vec<&str> = line.split(' ').collect();
+                let value = |at: usize| words[at].parse::<usize>().unwrap();
+                match (&record, words[0]) {
+                    (_, "trade") => cells[owner[value(1)]][owner[value(2)]] += value(3) as u64,
+                    (Record::Auction(_), _) if value(2) == 1 => total += value(4) as u64,
+                    (Record::Order(fields) | Record::Quote(fields), _) => {
+                        let room = entered.len() < 32 || entered.contains(&fields[0]);
+                        match value(1) {
+                            0 => {
+                                assert!(room);
+                                for at in 2..words.len() {
+                                    owner[value(at)] = fields[0] as usize;
+                                }
+                                if !entered.contains(&fields[0]) {
+                                    entered.push(fields[0]);
+                                }
+                            }
+                            16 => {
+                                assert!(!room);
+                                met_16 += 1;
+                            }
+                            9 | 10 => assert!(room),
+                            _ => {}
+                        }
+                    }
+                    _ => {}
+                }
+            }
+            let square = session.square.as_ref().unwrap();
+            assert_eq!((&square.members, square.total), (&entered, total));
+            assert_eq!(cells.iter().flatten().sum::<u64>(), total);
+            // Only an auction moves a cell.
+            if let Record::Auction(_) = record {
+                for at in 0..61 * 61 {
+                    let (buyer, seller) = (at / 61, at % 61);
+                    let quantity = square.cell(buyer as u64, seller as u64);
+                    assert_eq!(quantity, cells[buyer][seller]);
+                }
+            }
+        }
+        // The lines say the same, cell by cell.
+        let mut expected = String::new();
+        for &buyer in &entered {
+            for &seller in &entered {
+                let quantity = cells[buyer as usize][seller as usize];
+                if quantity != 0 {
+                    expected += &format!("owes {buyer} {seller} {quantity}\n");
+                    met_cells += 1;
+                }
+            }
+        }
+        let end = format!("end {}\n", walk(&file).0.len());
+        assert!(clearing(&file).ends_with(&(end + &expected + &format!("total {total}\n"))));
+    }
+    assert!(met_16 > 100 && met_cells > 1_000, "{met_16} {met_cells}");
 }
