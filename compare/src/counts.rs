@@ -50,14 +50,14 @@ pub const RULES: &Rules = &[
 
 /// An accepted order or quote side, by the fields of its record, with the quantity that is left.
 #[derive(Clone, Copy)]
-struct Resting {
-    member: u64,
+pub struct Resting {
+    pub member: u64,
     side: u64,
     validity: u64,
     entered: u64,
     left: u64,
     limit: u64,
-    quoted: bool,
+    pub quoted: bool,
 }
 
 /// The rule that decides among these orders taking part, and the price.
@@ -99,13 +99,13 @@ fn deciding(orders: &[&Resting], reference: u64) -> (&'static str, u64) {
 /// What a session's lines tell of it: the orders that rest, by number, the terms, and the reference
 /// price in force.
 #[derive(Default)]
-struct Followed {
-    resting: BTreeMap<u64, Resting>,
+pub struct Followed {
+    pub resting: BTreeMap<u64, Resting>,
     terms: [u64; 5],
     reference: u64,
     /// Of the last auction: whether it was the opening, and what rested before it.
     opening: bool,
-    before: BTreeMap<u64, Resting>,
+    pub before: BTreeMap<u64, Resting>,
     /// By member: how a side of the quote went, and whether another quote was refused since.
     gone: BTreeMap<u64, &'static str>,
     stays: BTreeSet<u64>,
@@ -115,7 +115,7 @@ struct Followed {
 
 impl Followed {
     /// A record with its answer and the two numbers behind it.
-    fn answered(&mut self, record: &Record, answer: &str, told: [u64; 2], counts: &mut Counts) {
+    pub fn answered(&mut self, record: &Record, answer: &str, told: [u64; 2], counts: &mut Counts) {
         let [first, second, third, fourth, fifth] = record.values;
         match record.kind {
             ORDER => self.by_start("order by start", &[(fourth, fifth)], answer, counts),
@@ -267,7 +267,7 @@ impl Followed {
         }
     }
 
-    fn trade(&mut self, numbers: [u64; 2], quantity: u64, counts: &mut Counts) {
+    pub fn trade(&mut self, numbers: [u64; 2], quantity: u64, counts: &mut Counts) {
         if let [Some(buy), Some(sell)] = numbers.map(|number| self.before.get(&number)) {
             let rule = match (buy.quoted, sell.quoted) {
                 (true, true) => "two quotes",

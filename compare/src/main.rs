@@ -3,13 +3,16 @@
 //!     compare [--seeds A..B] --engine CMD --second PROGRAM [--keep DIR]
 //!     compare [--seeds A..B] --looks CMD --second PROGRAM [--keep DIR]
 //!     compare [--seeds A..B] --rewrite CMD --second PROGRAM [--keep DIR]
+//!     compare [--seeds A..B] --clearing CMD --second PROGRAM [--keep DIR]
 //!
 //! CMD is a line for sh, and B is not included. Without seeds it is the fixed set, in which every
 //! rule has to come up. The first file on which the two differ is made small and kept in DIR.
 //! With --looks it is the calls that change nothing: CMD and `PROGRAM --looks` print what they
 //! answer while the file runs. With --rewrite it is the writer: CMD and `PROGRAM --rewrite` print
-//! the file's records, written anew.
+//! the file's records, written anew. With --clearing it is the square: CMD and `PROGRAM --clearing`
+//! print the lines of a session that keeps it, and then who owes whom.
 
+mod clearing;
 mod counts;
 mod looks;
 mod records;
@@ -25,7 +28,8 @@ use std::process::{exit, ChildStdin, Command, ExitStatus, Stdio};
 use std::sync::atomic::{AtomicBool, AtomicU64, Ordering::SeqCst};
 use std::{env, fs, io, io::Read, io::Write, thread, time::Duration};
 
-/// What is compared: the lines of sessions or of looks, or the bytes of files written anew.
+/// What is compared: the lines of sessions, without the square or with it, or of looks, or the bytes
+/// of files written anew.
 struct Subject {
     /// What the names of kept files begin with.
     kept: &'static str,
@@ -82,6 +86,20 @@ const REWRITES: Subject = Subject {
     count: rewrite::count,
     rules: rewrite::RULES,
     parting: parting_byte,
+};
+
+/// Without seed 0, which has few members.
+const CLEARING: Subject = Subject {
+    kept: "clearing",
+    files: "files with the square",
+    printed: "lines",
+    second: &["--clearing"],
+    fixed_set: 1..281,
+    file: temper::clearing_file,
+    in_parts: 0..0,
+    count: clearing::count,
+    rules: clearing::RULES,
+    parting: parting_line,
 };
 
 /// What a pipe holds can be read at once. So that `looks` and `rewrite` meet a short read too, a
@@ -239,13 +257,14 @@ fn main() {
             "--engine" => (programs.subject, programs.engine) = (SESSIONS, value),
             "--looks" => (programs.subject, programs.engine) = (LOOKS, value),
             "--rewrite" => (programs.subject, programs.engine) = (REWRITES, value),
+            "--clearing" => (programs.subject, programs.engine) = (CLEARING, value),
             "--second" => programs.second = value,
             "--keep" => dir = value,
             _ => quit(&format!("no option {word}")),
         }
     }
     if programs.engine.is_empty() || programs.second.is_empty() {
-        quit("which programs? --engine, --looks or --rewrite CMD, and --second PROGRAM");
+        quit("which? --engine, --looks, --rewrite or --clearing CMD, and --second PROGRAM");
     }
 
     let fixed = given.is_none();

@@ -10,6 +10,8 @@ pub const VALUE_MAX: u64 = 1_000_000_000_000_000;
 pub const NUMBER_MAX: u64 = 1_000_000;
 pub const MEMBER_MAX: u64 = 65_535;
 pub const PLACES: u64 = 512;
+/// Rows of the square (K5), each a member's.
+pub const ROWS: usize = 32;
 /// What `looks` and `rewrite` take of their input for the whole file.
 pub const LOOKED_AT: usize = 65_536;
 

@@ -75,18 +75,30 @@ const GOOD: u64 = 12;
 
 /// The name of a seed's temperament, and its file. Seed 0 is the one that gives its last number.
 pub fn session_file(seed: u64) -> (&'static str, Vec<u8>) {
-    let [step, reference, factor, threshold, maximum] = [100, 100_000, 9, 150, VALUE_MAX];
-    let (dice, file, given) = (Dice(seed), Vec::new(), Vec::new());
-    let mut maker = Maker { dice, file, step, reference, factor, threshold, maximum, given };
     let (name, temper) = match seed {
         0 => ("the last number", last_number as Temper),
         _ => TEMPERS[(seed as usize - 1) % TEMPERS.len()],
     };
+    (name, made(seed, temper))
+}
+
+/// For the square: every other file has many members, the others are those of the sessions.
+pub fn clearing_file(seed: u64) -> (&'static str, Vec<u8>) {
+    match seed % 2 {
+        0 => session_file(seed / 2),
+        _ => ("many members", made(seed, many_members)),
+    }
+}
+
+fn made(seed: u64, temper: Temper) -> Vec<u8> {
+    let [step, reference, factor, threshold, maximum] = [100, 100_000, 9, 150, VALUE_MAX];
+    let (dice, file, given) = (Dice(seed), Vec::new(), Vec::new());
+    let mut maker = Maker { dice, file, step, reference, factor, threshold, maximum, given };
     if seed > 0 && maker.dice.once_in(2) {
         maker.other_terms();
     }
     temper(&mut maker);
-    (name, maker.file)
+    maker.file
 }
 
 /// The same with looks between the records: auctions with a byte that names none are answered 1 and
@@ -296,8 +308,8 @@ impl Maker {
 
     /// A quote with a field out of range or a bid not below its ask; or one that the controls
     /// refuse for the bid, for the ask, or for both, each by a check of its own.
-    fn bad_quote(&mut self) {
-        let (member, [bid, ask]) = (self.dice.within(1..=MEMBERS), self.spread(3));
+    fn bad_quote(&mut self, member: u64) {
+        let [bid, ask] = self.spread(3);
         let mut values = [member, 10, bid, 10, ask];
         match self.dice.within(0..=9) {
             0 => {
@@ -318,6 +330,41 @@ impl Maker {
             }
         }
         self.put(QUOTE, values);
+    }
+
+    /// The same for an order; one at-the-opening is refused in day alone.
+    fn bad_order(&mut self, member: u64) {
+        let mut values = [member, self.side(), TILL_LATER, 10, self.near(3)];
+        match self.dice.within(0..=5) {
+            0 => values[3] = self.dice.one_of(&[0, QUANTITY_MAX + 1]),
+            1 => values[2] = AT_THE_OPENING,
+            2 => values[4] += 1,
+            3 => values[4] = self.reference * self.factor,
+            4 => values[3] = self.maximum.div_ceil(values[4]),
+            _ => (values[3], values[4]) = (self.maximum.div_ceil(self.reference), UNLIMITED),
+        }
+        self.put(ORDER, values);
+    }
+
+    /// A good order or quote of a member. It gets no number where others have all rows (K5).
+    fn entry(&mut self, member: u64, rows: &mut Vec<u64>) {
+        let (side, quantity) = (self.side(), self.dice.within(1..=100));
+        let sides = if self.dice.once_in(4) {
+            let ([bid, ask], other) = (self.spread(3), self.dice.within(1..=100));
+            self.put(QUOTE, [member, quantity, bid, other, ask]);
+            2
+        } else {
+            let limit = if self.dice.once_in(64) { UNLIMITED } else { self.near(3) };
+            let validity = self.dice.one_of(&[DAY, DAY, TILL_LATER, AT_THE_CLOSE]);
+            self.put(ORDER, [member, side, validity, quantity, limit]);
+            1
+        };
+        if rows.len() < ROWS && !rows.contains(&member) {
+            rows.push(member);
+        }
+        if rows.contains(&member) {
+            self.given.extend(vec![member; sides]);
+        }
     }
 
     /// A good quote over what is left of the member's; with too little room it gets no numbers.
@@ -365,6 +412,11 @@ impl Maker {
             let by = number + u64::from(self.dice.once_in(8));
             self.put(DELETE, [number, self.member(by), 0, 0, 0]);
         }
+    }
+
+    fn cut(&mut self) {
+        let left = self.dice.within(0..=self.file.len() as u64);
+        self.file.truncate(left as usize);
     }
 
     fn good_file(&mut self) {
@@ -637,7 +689,8 @@ fn quotes(maker: &mut Maker) {
     if maker.dice.once_in(2) {
         // Before the start: none of these gets a number.
         maker.any_quotes(1..=2, 3);
-        maker.bad_quote();
+        let member = maker.dice.within(1..=MEMBERS);
+        maker.bad_quote(member);
         maker.given.clear();
     }
     maker.start();
@@ -656,7 +709,10 @@ fn quotes(maker: &mut Maker) {
                 3 if room < PLACES => maker.delete_one_of(&mut rests.plain),
                 // An overwritten side, or another member's number.
                 4 => maker.any_deletions(1..=1),
-                5 => maker.bad_quote(),
+                5 => {
+                    let member = maker.dice.within(1..=MEMBERS);
+                    maker.bad_quote(member);
+                }
                 _ => maker.overwrite(&mut rests, crossing),
             }
         }
@@ -664,6 +720,44 @@ fn quotes(maker: &mut Maker) {
     }
     maker.any_quotes(0..=2, 3);
     maker.any_deletions(0..=5);
+}
+
+/// K5: about as many members as the square has rows, or some more. Their entries trade, some are
+/// refused, some are deleted at once, and at times the file is cut.
+fn many_members(maker: &mut Maker) {
+    maker.step = maker.dice.one_of(&[5, 100]);
+    (maker.reference, maker.factor) = (1_000 * maker.step, 9);
+    // So that 7 and 8 are met.
+    maker.maximum = 1_000 * maker.reference;
+    let (members, mut rows) = (maker.dice.within(30..=40), Vec::new());
+    // Their numbers differ in the low byte, in the high one, or in both.
+    let apart = maker.dice.one_of(&[1, 256, MEMBER_MAX / 40]);
+    let entries = maker.dice.one_of(&[20, 40, 40, 80, 80, 700]);
+    maker.start();
+    for auction in [OPENING, OPENING, CLOSING] {
+        for _ in 0..maker.dice.within(entries / 2..=entries) {
+            let member = apart * maker.dice.within(1..=members);
+            match maker.dice.within(0..=15) {
+                0 => maker.bad_order(member),
+                1 => maker.bad_quote(member),
+                2 => maker.any_deletions(1..=1),
+                3 => {
+                    maker.entry(member, &mut rows);
+                    maker.delete(maker.last());
+                }
+                _ => maker.entry(member, &mut rows),
+            }
+        }
+        maker.auction(auction);
+    }
+    // Closed: none of these is taken.
+    for _ in 0..maker.dice.within(0..=8) {
+        let member = apart * maker.dice.within(1..=members);
+        maker.entry(member, &mut rows);
+    }
+    if maker.dice.once_in(4) {
+        maker.cut();
+    }
 }
 
 /// Each field of each kind bad or at an end, in any order and so in any phase.
@@ -719,8 +813,7 @@ fn two_sessions(maker: &mut Maker) {
 
 fn cut(maker: &mut Maker) {
     maker.good_file();
-    let left = maker.dice.within(0..=maker.file.len() as u64);
-    maker.file.truncate(left as usize);
+    maker.cut();
 }
 
 fn damaged(maker: &mut Maker) {
