@@ -1,18 +1,22 @@
 # The front door. `make test` is the gate; see README.md.
-.PHONY: test run bench compare soak release verify moved mutants
+.PHONY: test run clearing bench compare soak release verify moved mutants
 
 test:
 	@sh tools/test.sh
 
 # A session file: FILE, or standard input. The shell takes the name from the environment, so that any name will do.
 run:
-	@sh tools/run.sh "$$FILE"
+	@sh tools/run.sh run replay "$$FILE"
+
+# The same in a session that keeps the square, and then who owes whom.
+clearing:
+	@sh tools/run.sh clearing clearing "$$FILE"
 
 # What a call costs: docs/BENCHMARKS.md.
 bench:
 	@sh tools/bench.sh
 
-# The session program against the second one: the fixed set, and as many seeds as one likes (make soak N=100000).
+# The engine's programs against the second one: the fixed set, and as many seeds as one likes (make soak N=100000).
 compare:
 	@sh tools/compare.sh
 
