@@ -1,12 +1,13 @@
 #!/bin/sh
 # compare.sh [N]: the engine's programs and the second one on session files made by seed: what they print must be the same bytes.
 # First the session program, then the looks, which print what the calls that change nothing answer meanwhile, then the rewriting of
-# files, whose output is bytes. The fixed sets, in which every rule has to come up; or with N the last-number session and seeds 1 to N,
-# the looks and the rewriting on the latter.
+# files, whose output is bytes, then who owes whom. The fixed sets, in which every rule has to come up; or with N the last-number session
+# and seeds 1 to N, all but the sessions on the latter.
 cd "$(dirname "$0")/.." || exit 1
 session=target/bin/replay
 looks=target/bin/looks
 rewrite=target/bin/rewrite
+clearing=target/bin/clearing
 made=target/compare
 fail() {
     echo "compare: $*" >&2
@@ -18,7 +19,7 @@ if ! command -v rustc >/dev/null 2>&1; then
     [ "$ALLOW_NO_RUSTC" = 1 ]
     exit
 fi
-for program in "$session" "$looks" "$rewrite"; do
+for program in "$session" "$looks" "$rewrite" "$clearing"; do
     [ -x "$program" ] || fail "no program $program"
 done
 
@@ -46,4 +47,5 @@ compare() {
 }
 compare ${1:+--seeds "0..$(($1 + 1))"} --engine "$words $session" || exit
 compare ${1:+--seeds "1..$(($1 + 1))"} --looks "$words $looks" || exit
-compare ${1:+--seeds "1..$(($1 + 1))"} --rewrite "$words $rewrite"
+compare ${1:+--seeds "1..$(($1 + 1))"} --rewrite "$words $rewrite" || exit
+compare ${1:+--seeds "1..$(($1 + 1))"} --clearing "$words $clearing"
