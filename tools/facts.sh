@@ -2,8 +2,8 @@
 # Sourced at the top of the tree: what a release says of it. Nothing here goes by a file's time, the clock, the user or the language.
 export LC_ALL=C
 
-# What is released: `sums` and the programs of `make bench` stay here.
-programs='replay'
+# What is released: the programs that only test or measure the engine stay here.
+programs='replay clearing'
 documents='FORMAT.md STATEMENTS.md TRUST.md'
 
 commit() {

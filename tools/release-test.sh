@@ -6,7 +6,10 @@ fail() {
     exit 1
 }
 command -v git >/dev/null || fail "no git on the PATH"
-[ -f target/bin/replay ] || fail "no target/bin/replay: run rt check replay"
+programs=$(. tools/facts.sh && echo "$programs")
+for name in $programs; do
+    [ -f "target/bin/$name" ] || fail "no target/bin/$name: run rt check $name"
+done
 dir=$(mktemp -d) || exit 1
 trap 'rm -rf "$dir"' EXIT
 # Neither the repository that a hook is run for nor the settings of the user or the machine.
@@ -15,14 +18,16 @@ unset GIT_CONFIG_GLOBAL $(git rev-parse --local-env-vars)
 export HOME="$dir" XDG_CONFIG_HOME="$dir" GIT_CONFIG_NOSYSTEM=1
 export GIT_AUTHOR_NAME=test GIT_AUTHOR_EMAIL=test GIT_COMMITTER_NAME=test GIT_COMMITTER_EMAIL=test
 
-# The tree as it is here, committed or not, as a commit in two places, each with the program that is built and the record of a gate.
+# The tree as it is here, committed or not, as a commit in two places, each with the programs that are built and the record of a gate.
 all=$dir/all
 git init -q --bare "$all" && git --git-dir="$all" --work-tree=. add -A && git --git-dir="$all" --work-tree=. commit -q -m test || exit 1
 here=$dir/here
 there=$dir/another/place/there
 git clone -q "$all" "$here" && (umask 077 && git clone -q -c core.autocrlf=true "$all" "$there") || exit 1
 gated() {
-    mkdir -p "$1/target/bin" && cp target/bin/replay "$1/target/bin" && (cd "$1" && . tools/facts.sh && record clean '1 passed, 0 failed' "$(cat kit.txt)" >target/gate)
+    mkdir -p "$1/target/bin" || return
+    for name in $programs; do cp "target/bin/$name" "$1/target/bin" || return; done
+    (cd "$1" && . tools/facts.sh && record clean '1 passed, 0 failed' "$(cat kit.txt)" >target/gate)
 }
 gated "$here" && gated "$there" || exit 1
 
