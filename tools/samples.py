@@ -1,9 +1,9 @@
 #!/usr/bin/env python3
-"""samples.py: writes samples/*.session and samples/README.md. samples.py --into FOLDER: writes them there instead.
-samples.py NAME: writes that one file to standard output.
+"""samples.py: writes samples/*.session, samples/clearing/*.session and samples/README.md. samples.py --into FOLDER: writes them there
+instead. samples.py NAME: writes that one file to standard output.
 
 A sample is a function: its name is the file's, its docstring the README's sentence, what it returns the file's records. What
-is printed for it, samples/*.out, is not made here: the scope document says what is right there, not a program.
+is printed for it, the .out beside it, is not made here: the scope document says what is right there, not a program.
 """
 import struct
 import sys
@@ -49,11 +49,17 @@ def sell(quantity, limit=UNLIMITED, **other):
 
 
 OPENING, CLOSING = auction(1), auction(2)
-SAMPLES, UNSTORED = [], []
+SAMPLES, UNSTORED, CLEARING = [], [], []
 
 
 def sample(function):
     SAMPLES.append(function)
+    return function
+
+
+def clearing(function):
+    """One for the program that keeps the square (K5)."""
+    CLEARING.append(function)
     return function
 
 
@@ -886,17 +892,80 @@ def boundaries():
     return [file, sell(70_000, 100_000), CLOSING]
 
 
+# Who owes whom (K5)
+
+@clearing
+def bought_from_itself():
+    """Member 7 buys 20 from itself and 10 from member 8: the first is a cell as any other."""
+    return [start(), buy(30, 100_000), sell(20, 100_000), sell(10, 100_000, member=8), OPENING]
+
+
+@clearing
+def two_auctions_add_up():
+    """What member 7 bought from member 9 in both auctions is one line; rows and columns go by the first accepted entry: 9, 7, 8."""
+    return [
+        start(), sell(50, 100_000, member=9), buy(30, 100_000), OPENING,
+        buy(15, 100_000), buy(5, 100_000, member=8), sell(10, 100_000), buy(10, 100_000, member=9), CLOSING,
+    ]
+
+
+@clearing
+def nothing_traded():
+    """Two auctions of outcome 2: no cell has a line, and the total is 0."""
+    return [start(), buy(10, 99_000), sell(10, 101_000, member=8), OPENING, CLOSING]
+
+
+@clearing
+def fault_then_owes():
+    """After a fault the lines come all the same, with what was traded before it."""
+    return [start(), buy(50, 100_000), sell(30, 100_000, member=8), OPENING, struct.pack("<HHB", 6, 4, 2), CLOSING]
+
+
+def one_each(count):
+    """A buy of each of the members from 101 on."""
+    return [buy(1, 99_000, member=101 + n) for n in range(count)]
+
+
+@clearing
+def only_order_deleted():
+    """Member 7 keeps its row though its only order was deleted: with 31 others member 8 is the thirty-third, refused by 16, and 7 trades."""
+    return [
+        start(), buy(10, 99_000), delete(1), *one_each(31),
+        buy(10, 100_000, member=8), buy(10, 100_000), sell(10, 100_000, member=101), OPENING,
+    ]
+
+
+@clearing
+def thirty_third_by_order():
+    """Refusal 16: after 32 members an order of member 7 is refused, by 8 where it reaches that; one of the 32 is accepted, and 7 refused after the opening."""
+    return [
+        start(), *one_each(32), sell(10_000_000), sell(9_999_999),
+        sell(2, 99_000, member=132), OPENING, buy(10, 99_000),
+    ]
+
+
+@clearing
+def thirty_third_by_quote():
+    """Refusal 16: member 132 is entered by a quote, as the 32nd; a quote of member 7 is refused, by 8 where its ask reaches that; 132 and 101 quote again."""
+    return [
+        start(), *one_each(31), quote(BID, ASK, member=132), quote((10, 50_000), (10_000_000, 50_100)), GOOD,
+        quote(BID, ASK, member=132), quote((5, 99_700), (5, 99_800), member=101), OPENING,
+    ]
+
+
 README = """# Samples
 
 Session files, what each of them shows, and what is printed for it: `NAME.session` and `NAME.out`. `make run FILE=samples/worked.session` runs one;
-`tools/samples.sh`, a part of `make test`, runs all of them and holds what they print to the `.out`, byte by byte.
+those in `clearing/` are for the program that keeps the square (K5): `make clearing FILE=samples/clearing/nothing_traded.session`. `tools/samples.sh`, a
+part of `make test`, runs all of them and holds what they print to the `.out`, byte by byte.
 
 `tools/samples.py` makes the session files and this page, and `tools/samples.sh` holds them to it. It doesn't make a `.out`: the scope document
 says what is right there, so a `.out` changes only when a rule does.
 
 Unless the sentence says otherwise a session has the step 100, the reference price 100,000, the factor 9, the threshold 150 and the maximum order value
 1,000,000,000,000, its orders are day orders of member 7, and its quotes are of that member, too. Refusals are named by their number in the scope document
-and, for 13, in the change request for quotes (K2). Refusal 12 can't come up in a file: the program lends every auction a list that is long enough.
+and, for 13 and 16, in the change requests for quotes (K2) and for the square (K5). Refusal 12 can't come up in a file: the programs lend every auction a
+list that is long enough.
 
 | file | what it shows |
 |---|---|
@@ -914,19 +983,26 @@ def main():
     if sys.argv[1:2] == ["--into"] and len(sys.argv) == 3:
         folder = Path(sys.argv[2])
     elif len(sys.argv) > 1:
-        made = {f.__name__: f for f in SAMPLES + [f for f, _ in UNSTORED]}
+        made = {f.__name__: f for f in SAMPLES + CLEARING + [f for f, _ in UNSTORED]}
         if sys.argv[1] not in made:
             sys.exit(f"samples: no sample {sys.argv[1]}")
         sys.stdout.buffer.write(b"".join(made[sys.argv[1]]()))
         return
-    for old in folder.glob("*.session"):
+    (folder / "clearing").mkdir(exist_ok=True)
+    for old in folder.glob("**/*.session"):
         old.unlink()
     rows = []
+
+    def stored(name, f):
+        (folder / f"{name}.session").write_bytes(b"".join(f()))
+        rows.append(f"| `{name}` | {sentence(f)} |\n")
+
     for f in SAMPLES:
-        (folder / f"{f.__name__}.session").write_bytes(b"".join(f()))
-        rows.append(f"| `{f.__name__}` | {sentence(f)} |\n")
+        stored(f.__name__, f)
     for f, size in UNSTORED:
         rows.append(f"| `{f.__name__}` | {sentence(f)}{UNSTORED_ROW.format(size, f.__name__)} |\n")
+    for f in CLEARING:
+        stored(f"clearing/{f.__name__}", f)
     (folder / "README.md").write_text(README + "".join(rows), encoding="utf-8")
 
 

@@ -1,9 +1,8 @@
 #!/bin/sh
-# Runs every session file of samples/ and holds what is printed to its .out, byte by byte; has each rewritten (K1); and holds the files to
-# tools/samples.py, which makes them and their README.
+# Runs every session file of samples/, and by the clearing program those of samples/clearing/ (K5), and holds what is printed to its .out,
+# byte by byte; has each rewritten (K1); and holds the files to tools/samples.py, which makes them and their README.
 cd "$(dirname "$0")/.." || exit 1
-program=target/bin/replay
-for name in replay rewrite; do
+for name in replay rewrite clearing; do
     [ -x "target/bin/$name" ] || { echo "samples: no program target/bin/$name: rt check $name builds it"; exit 1; }
 done
 # shellcheck source=tools/x86.sh
@@ -17,10 +16,10 @@ same() {
     echo "samples: $1: first difference: $(diff "$2" "$dir/printed" | sed -n '2{s/^</stored/;s/^>/printed/;p;}')"
     return 1
 }
-# held NAME STORED: what standard input prints is what is stored
+# held PROGRAM NAME STORED: what standard input prints is what is stored
 held() {
-    x86 "$program" >"$dir/printed" || { echo "samples: $1: the program failed"; return 1; }
-    same "$1" "$2"
+    x86 "target/bin/$1" >"$dir/printed" || { echo "samples: $2: the program failed"; return 1; }
+    same "$2" "$3"
 }
 
 # rewritten NAME: a good file comes out as it is (K1), any other one as what stands before its first record that is faulty or out of range.
@@ -38,16 +37,18 @@ rewritten() {
 
 bad=0
 count=0
-for file in samples/*.session; do
-    name=$(basename "$file" .session)
+for file in samples/*.session samples/clearing/*.session; do
+    name=${file#samples/}
+    name=${name%.session}
+    program=replay
+    [ "${name#clearing/}" = "$name" ] || program=clearing
     [ -f "samples/$name.out" ] || { echo "samples: $name has no .out"; bad=1; continue; }
-    held "$name" "samples/$name.out" <"$file" || bad=1
+    held $program "$name" "samples/$name.out" <"$file" || bad=1
     rewritten "$name" || bad=1
     count=$((count + 1))
 done
-for file in samples/*.out; do
-    name=$(basename "$file" .out)
-    [ -f "samples/$name.session" ] || { echo "samples: $name has no .session"; bad=1; }
+for file in samples/*.out samples/clearing/*.out; do
+    [ -f "${file%.out}.session" ] || { echo "samples: ${file#samples/} has no .session"; bad=1; }
 done
 
 # In pieces, so that reads are cut anywhere: each by a process of its own, which takes longer than the program does.
@@ -59,9 +60,9 @@ pieces() {
         at=$((at + 1))
     done
 }
-pieces 701 samples/boundaries.session | held 'boundaries in pieces' samples/boundaries.out || bad=1
+pieces 701 samples/boundaries.session | held replay 'boundaries in pieces' samples/boundaries.out || bad=1
 # A first read that ends inside the second record's header, whatever the machine's pace.
-{ dd bs=26 count=1 2>/dev/null; sleep 1; cat; } <samples/worked.session | held 'worked in two pieces' samples/worked.out || bad=1
+{ dd bs=26 count=1 2>/dev/null; sleep 1; cat; } <samples/worked.session | held replay 'worked in two pieces' samples/worked.out || bad=1
 
 # A million numbers, by orders and by quotes: made here, since they are too long to be stored.
 if command -v python3 >/dev/null 2>&1; then
@@ -70,7 +71,7 @@ if command -v python3 >/dev/null 2>&1; then
         name=$1
         shift
         printf '%s\n' "$@" >"$dir/stored"
-        python3 tools/samples.py "$name" | x86 "$program" | tail -n $# >"$dir/printed"
+        python3 tools/samples.py "$name" | x86 target/bin/replay | tail -n $# >"$dir/printed"
         same "$name" "$dir/stored"
     }
     last refusal_9 '1999488 order 0 999999' '1999489 quote 9 0 0' '1999490 order 0 1000000' '1999491 order 9 0' '1999492 quote 9 0 0' \
@@ -79,7 +80,7 @@ if command -v python3 >/dev/null 2>&1; then
         '500006 order 9 0' '500007 auction 0 2 0 0 0' '500008 delete 0' 'end 500008' || bad=1
     # The stored files are what the generator makes.
     { mkdir "$dir/made" && python3 tools/samples.py --into "$dir/made"; } || { echo "samples: tools/samples.py makes no files"; exit 1; }
-    for name in $({ ls "$dir/made" && cd samples && ls -- *.session; } | sort -u); do
+    for name in $({ (cd "$dir/made" && find . -type f) && (cd samples && find . -name '*.session'); } | sed 's,^\./,,' | sort -u); do
         cmp -s "$dir/made/$name" "samples/$name" && continue
         if [ ! -f "$dir/made/$name" ]; then
             echo "samples: $name is stored, and tools/samples.py doesn't make it"
