@@ -313,6 +313,7 @@ acted-sound d (Act.delete number member) sound = deleted-desk-sound d number mem
 acted-sound d (Act.quote e) sound = quoted-desk-sound d e sound
 acted-sound d (Act.auction which list) sound = auctioned-desk-sound d which list sound
 
+-- K5e. .. so every call hands it on, and with it that no sum wraps (`within` of SoundDesk)
 pub handed-on : (d : Desk) (c : Call) → SoundDesk d → SoundDesk (after d c)
 handed-on d (Call.act c) sound = acted-sound d c sound
 handed-on d (Call.look l) sound = sound

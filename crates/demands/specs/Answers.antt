@@ -214,7 +214,7 @@ rules s = record {
   front-1 = λ buys sells side. refl;
 }
 
--- .. so that no order and no quote is answered 16 there
+-- K5d. .. so that no order and no quote is answered 16 there
 pub no-sixteen-for-order : (s : Session) (e : Entry) → entered s e .answer ≢ 16
 no-sixteen-for-order s e h = order-exactly s e .refused 16 (omega arith) .0 h .0
 

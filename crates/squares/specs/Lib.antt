@@ -2,6 +2,7 @@
 
 -- the paper
 pub mod Square
+pub mod Examples
 pub mod Cells
 -- as the code computes it
 pub mod Naming
