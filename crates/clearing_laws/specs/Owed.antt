@@ -9,9 +9,9 @@ use native.Mathlib.Omega.{arith}
 use borrow.Author.Tests.{eq-eqb, ne-eqb, eqb-true, eqb-false}
 use lib.Dec.{eqb, ltb}
 use lib.ListN.{length, getD, set}
-use lib.Seq.{length-take-le, getD-take, getD-set-same, getD-set-other}
+use lib.Seq.{getD-take, getD-set-same, getD-set-other}
 use Rattle.lists.specs.Tests.{tests, decided}
-use Rattle.lists.specs.Sums.{_∈_, counted, sum, sum-same, sum-none, sum-map}
+use Rattle.lists.specs.Sums.{_∈_, counted, sum, sum-append, sum-same, sum-none, sum-map}
 use Rattle.terms.specs.Bounds.{places}
 use Rattle.terms.specs.Orders.{Resting, auctionNumber, auctionFrom}
 use Rattle.terms.specs.declared.orders.{Side.Side, Side.the-variants.Buy, Side.the-variants.Sell, Auction.Auction, Entry.Entry}
@@ -37,6 +37,7 @@ use Rattle.answers.specs.Auctions as auctions
 use Rattle.desk.specs.declared.{Desk.Desk, Entered.Entered, Quoted.Quoted}
 use Rattle.desk.specs.Desk.{freshDesk, known, rowIn, withTotals, entering}
 use Rattle.desk.specs.Calls.{orderChecks, orderRefused, orderDone, entered, quoteChecks, quoteRefused, quoteDone, quoted}
+use Rattle.desk.specs.EntryCalls.{known-length}
 use Rattle.desk.specs.Sound.{SoundDesk}
 use Rattle.desk.specs.SoundAfter.{fresh-desk-sound, started-desk-sound, entered-desk-sound, quoted-desk-sound, deleted-desk-sound}
 use Rattle.desk_auction.specs.Auctions.{memberOf, rowOfOrder, tradesListed, clearedBy, auctioned}
@@ -45,7 +46,7 @@ use Rattle.desk_auction.specs.SoundAfter.{auctioned-desk-sound}
 use Rattle.demands.specs.Sequences.{Act, Call}
 use Rattle.demands.specs.Outcomes.{accepted-number}
 use Rattle.demands.specs.Auctioned.{TookPlace, ListWritten, list-written}
-use Rattle.clearing_laws.specs.Runs.{acted, after, run, Deal, dealOf, dealt, dealsSoFar, owed, memberAt, cellAt, quantityOf, quantityTraded, tradedSoFar}
+use Rattle.clearing_laws.specs.Runs.{acted, after, run, Deal, dealOf, dealt, dealsSoFar, owedBy, owed, memberAt, cellAt, quantityOf, quantityTraded, tradedSoFar}
 
 -- ---- members and rows
 -- a member that is entered has a row
@@ -53,12 +54,9 @@ abbrev IsEntered : Desk → ℕ → Type 0
 IsEntered d m = (i : ℕ) × (i < d .count) × (memberAt d i ≡ m)
 
 module _ (d : Desk) (sound : SoundDesk d) where
-  known-length : length (known d) ≡ d .count
-  known-length = length-take-le (d .count) (d .members) (omega (arith, sound .few, sound .members-long))
-
   -- a row below the count is its member's
   stands : (m : ℕ) → rowIn d m < d .count → memberAt d (rowIn d m) ≡ m
-  stands m h = sym (getD-take (d .count) (d .members) (rowIn d m) 0 h) ∙ row-holds (known d) m (omega (arith, known-length))
+  stands m h = sym (getD-take (d .count) (d .members) (rowIn d m) 0 h) ∙ row-holds (known d) m (omega (arith, known-length d sound))
 
   row-of-entered : (m : ℕ) → IsEntered d m → rowIn d m < d .count
   row-of-entered m (i, h, e) = let at : rowIn d m ≡ i = ap (rowIn d) (sym e) ∙ sound .in-order i h in omega arith
@@ -151,10 +149,6 @@ module _ (d e : Desk) (sound : SoundDesk e) (k : Keeps d e) (deals : List Deal) 
   }
 
 -- ---- an auction: its trades are added
-owed-more : (b s : ℕ) (xs ys : List Deal) → owed b s (xs ++ ys) ≡ owed b s xs + owed b s ys
-owed-more b s [] ys = omega arith
-owed-more b s (x ∷ xs) ys = omega (arith, owed-more b s xs ys)
-
 -- trades between members that are entered, in the book before the auction
 abbrev Between : Desk → List Trade → Type 0
 Between d ts = (side : Side) (t : Trade) → t ∈ ts → rowOfOrder d (party side t) < d .count
@@ -194,7 +188,7 @@ module _ (d : Desk) (sound : SoundDesk d) (ts : List Trade) (rows : Between d ts
   accounts-added : (s : Session) (deals : List Deal) → Accounts d deals → Accounts (withTotals d s totals) (deals ++ map (dealOf d) ts)
   accounts-added s deals so-far = record {
     cells = λ i j hi hj.
-        let more = owed-more (memberAt d i) (memberAt d j) deals (map (dealOf d) ts) in
+        let more = sum-append (owedBy (memberAt d i) (memberAt d j)) deals (map (dealOf d) ts) in
         let now = cell-added i j (omega (arith, sound .few)) (omega (arith, sound .few)) in
         now ∙ omega (arith, more, so-far .cells i j hi hj, by-members i j hi hj);
     others = λ i j hi hj out. cell-added i j hi hj ∙ omega (arith, so-far .others i j hi hj out, of-others i j out);

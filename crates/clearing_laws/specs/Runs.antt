@@ -65,8 +65,11 @@ dealsSoFar d [] = []
 dealsSoFar d (c ∷ cs) = dealt d c ++ dealsSoFar (after d c) cs
 
 -- what one member bought of another, worked out from a list of trades
+abbrev pub owedBy : ℕ → ℕ → Deal → ℕ
+owedBy buyer seller x = counted (eqb (x .buyer) buyer && eqb (x .seller) seller) (x .quantity)
+
 abbrev pub owed : ℕ → ℕ → List Deal → ℕ
-owed buyer seller deals = sum (λ (x : Deal). counted (eqb (x .buyer) buyer && eqb (x .seller) seller) (x .quantity)) deals
+owed buyer seller deals = sum (owedBy buyer seller) deals
 
 -- the member of a row, and a cell of the square as it is handed out
 abbrev pub memberAt : Desk → ℕ → ℕ

@@ -30,22 +30,17 @@ isBeyond d member = not (any (λ m. eqb m member) (known d)) && leb squareMember
 abbrev pub withSession : Desk → Session → Desk
 withSession d s = record { session = s; members = d .members; count = d .count; rows = d .rows; totals = d .totals }
 
--- an accepted entry: its member is entered under its row, if it was not before
-abbrev pub enteredAs : Desk → Session → ℕ → ℕ → Desk
-enteredAs d s member row = record {
-  session = s;
-  members = set (d .members) row member;
-  count = cond (eqb row (d .count)) (row + 1) (d .count);
-  rows = d .rows;
-  totals = d .totals;
-}
-
--- .. and its places have this row
-abbrev pub withRows : Desk → List ℕ → Desk
-withRows d rows = record { session = d .session; members = d .members; count = d .count; rows = rows; totals = d .totals }
-
+-- an accepted entry: its member is entered under its row, if it was not before, and its places have this row
 abbrev pub entering : Desk → ℕ → Session → List ℕ → Desk
-entering d member s rows = enteredAs (withRows d rows) s member (rowIn d member)
+entering d member s rows =
+    let row = rowIn d member in
+    record {
+      session = s;
+      members = set (d .members) row member;
+      count = cond (eqb row (d .count)) (row + 1) (d .count);
+      rows = rows;
+      totals = d .totals;
+    }
 
 -- trades: the session after them, and other totals
 abbrev pub withTotals : Desk → Session → List ℕ → Desk

@@ -1,10 +1,10 @@
 -- Order and quote of a desk from what their code learns on the way: the effect decides, and an accepted entry is no thirty-third member's.
 use Prim.Native.Nat.{ℕ, _+_, _<_}
-use mathlib.Core.Bool.{Bool, true, false}
+use mathlib.Core.Bool.{Bool, true, false, cond}
 use mathlib.Core.Path.{_≡_, refl, sym, ap, _∙_}
 use mathlib.Core.List.{List}
 use borrow.Author.Tests.{leb-false}
-use lib.Dec.{leb}
+use lib.Dec.{eqb, leb}
 use lib.ListN.{set, length}
 use lib.Seq.{length-take-le}
 use native.Mathlib.Omega.{arith}
@@ -26,6 +26,7 @@ use Rattle.effects.specs.QuoteEffects.{quoteChange, quoteEffect, quote-not-beyo
 use Rattle.quotation.specs.declared.{Quoted.Quoted as plainQuoted}
 use Rattle.quotation.specs.Quote.{bookWithout}
 use Rattle.quotation.specs.QuoteCall.{requotedIn, oldIn, old-places, fresh-is, requoted-is, by-places, placed}
+use Rattle.session.specs.declared.{Session.Session}
 use Rattle.squares.specs.Square.{squareMembers}
 use Rattle.squares.specs.Rows.{beyond-by-row}
 use Rattle.desk.specs.declared.{Desk.Desk, Entered.Entered, Quoted.Quoted}
@@ -33,11 +34,21 @@ use Rattle.desk.specs.Desk.{known, rowIn, isBeyond, entering}
 use Rattle.desk.specs.Calls.{orderChecks, orderRefused, entered, quoteRefused, quoteDone, quoted}
 use Rattle.desk.specs.Sound.{SoundDesk}
 
+-- as many members as counted
+pub known-length : (d : Desk) → SoundDesk d → length (known d) ≡ d .count
+known-length d sound = length-take-le (d .count) (d .members) (omega (arith, sound .few, sound .members-long))
+
 -- a thirty-third member's row is behind the last of the square
 pub beyond-is : (d : Desk) → SoundDesk d → (member : ℕ) → leb squareMembers (rowIn d member) ≡ isBeyond d member
 beyond-is d sound member =
-    let long : length (known d) ≡ d .count = length-take-le (d .count) (d .members) (omega (arith, sound .few, sound .members-long)) in
+    let long = known-length d sound in
     beyond-by-row (known d) member (omega (arith, long, sound .few)) ∙ rw long
+
+-- a desk whose parts are stored one by one, the member's row among them
+pub entering-as : (d : Desk) (member : ℕ) {session session' : Session} {row count : ℕ} {rows : List ℕ} (rows' : ℕ → List ℕ) → session ≡ session' → row ≡ rowIn d member → rows ≡ rows' row
+    → count ≡ cond (eqb row (d .count)) (row + 1) (d .count)
+    → _≡_ {A = Desk} (record { session = session; members = set (d .members) row member; count = count; rows = rows; totals = d .totals }) (entering d member session' (rows' (rowIn d member)))
+entering-as d member rows' s r rows count = rw (s, rows, count, r)
 
 -- what an order changes in a desk
 abbrev pub orderIn : Desk → Entry → Effect

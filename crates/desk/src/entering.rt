@@ -3,14 +3,19 @@ use crate::Desk;
 use crate::Entered;
 use crate::Quoted;
 use book::put8;
+use book::put16;
+use book::put32;
 use effects::Effect;
 use effects::QuoteEffect;
 use effects::order_effect;
 use effects::quote_effect;
-use entries::changed;
-use quotation::requoted;
+use places::WORD_PLACES;
+use places::put_word;
 use quotes::Pair;
-use session::Session;
+use quotes::requote_words;
+use quotes::requote8;
+use quotes::requote16;
+use quotes::requote32;
 use squares::MEMBERS;
 use squares::row_of;
 use terms::Entry;
@@ -19,22 +24,8 @@ use terms::Side;
 ghost use mathlib.Core.Path.{_≡_};
 ghost use Prim.Native.Nat.{_<_};
 ghost use Rattle.squares.specs.Square.{squareMembers};
-ghost use Rattle.desk.specs.Desk.{enteredAs};
 ghost use Rattle.desk.specs.Calls.{entered as Calls·entered, quoted as Calls·quoted};
 ghost use Rattle.desk.specs.Sound.{SoundDesk};
-
-// A member of this row entered, if it was not before, and the session after its entry.
-fn entered_as(mut desk: Desk, session: Session, member: u16, row: usize) -> Desk
-    requires { ⌜ row < squareMembers ⌝ }
-    ensures { λ r. ⌜ r ≡ enteredAs desk session member row ⌝ }
-{
-    desk.session = session;
-    desk.members[row] = member;
-    if row == desk.count {
-        desk.count = row + 1;
-    }
-    desk
-}
 
 fn narrow(row: usize) -> u8
     requires { ⌜ row < squareMembers ⌝ }
@@ -43,7 +34,8 @@ fn narrow(row: usize) -> u8
     row as u8
 }
 
-// Order: refusals 1, 2, 4, 5, 6, 7, 8, 16, 9, 10.
+// Order: refusals 1, 2, 4, 5, 6, 7, 8, 16, 9, 10. The change is stored as in `entries`, in the desk itself: a session stored by itself would be one
+// copy more.
 pub fn order(mut desk: Desk, e: Entry) -> Entered
     requires { ⌜ SoundDesk desk ⌝ }
     ensures { λ r. ⌜ r ≡ Calls·entered desk e ⌝ }
@@ -57,8 +49,8 @@ pub fn order(mut desk: Desk, e: Entry) -> Entered
         parameters,
         parameters.reference,
         MEMBERS <= row,
-        session.given,
-        &session.book.taken,
+        desk.session.given,
+        &desk.session.book.taken,
         e,
     );
     match effect {
@@ -68,12 +60,26 @@ pub fn order(mut desk: Desk, e: Entry) -> Entered
             desk,
         },
         Effect::Done(c) => {
-            let later = changed(session, c);
-            put8(&mut desk.rows, c.place, narrow(row));
+            let place = c.place;
+            let values = c.values;
+            desk.session.given = c.given;
+            put_word(&mut desk.session.book.taken, place / WORD_PLACES, c.word);
+            put32(&mut desk.session.book.number, place, values.number);
+            put16(&mut desk.session.book.member, place, values.member);
+            put8(&mut desk.session.book.side, place, values.side);
+            put8(&mut desk.session.book.validity, place, values.validity);
+            put32(&mut desk.session.book.left, place, values.left);
+            put32(&mut desk.session.book.limit, place, values.limit);
+            put8(&mut desk.session.book.quoted, place, values.quoted);
+            put8(&mut desk.rows, place, narrow(row));
+            desk.members[row] = e.member;
+            if row == desk.count {
+                desk.count = row + 1;
+            }
             Entered {
                 answer: 0,
                 number: c.given,
-                desk: entered_as(desk, later, e.member, row),
+                desk,
             }
         }
     }
@@ -89,16 +95,16 @@ pub fn quote(mut desk: Desk, e: QuoteEntry) -> Quoted
     let phase = session.phase;
     let parameters = session.parameters;
     let bid = quotes::quote_place(
-        &session.book.quoted,
-        &session.book.member,
-        &session.book.side,
+        &desk.session.book.quoted,
+        &desk.session.book.member,
+        &desk.session.book.side,
         e.member,
         Side::BUY,
     );
     let ask = quotes::quote_place(
-        &session.book.quoted,
-        &session.book.member,
-        &session.book.side,
+        &desk.session.book.quoted,
+        &desk.session.book.member,
+        &desk.session.book.side,
         e.member,
         Side::SELL,
     );
@@ -107,8 +113,8 @@ pub fn quote(mut desk: Desk, e: QuoteEntry) -> Quoted
         parameters,
         parameters.reference,
         MEMBERS <= row,
-        session.given,
-        &session.book.taken,
+        desk.session.given,
+        &desk.session.book.taken,
         Pair { bid, ask },
         e,
     );
@@ -120,17 +126,60 @@ pub fn quote(mut desk: Desk, e: QuoteEntry) -> Quoted
             desk,
         },
         QuoteEffect::Done(c) => {
+            let old = c.old;
             let fresh = c.fresh;
-            let first = c.bid;
-            let second = c.ask;
-            let later = requoted(session, c);
+            let bid = c.bid;
+            let ask = c.ask;
+            desk.session.given = c.given;
+            requote_words(&mut desk.session.book.taken, old, fresh);
+            requote32(
+                &mut desk.session.book.number,
+                old,
+                fresh,
+                bid.number,
+                ask.number,
+            );
+            requote16(
+                &mut desk.session.book.member,
+                old,
+                fresh,
+                bid.member,
+                ask.member,
+            );
+            requote8(&mut desk.session.book.side, old, fresh, bid.side, ask.side);
+            requote8(
+                &mut desk.session.book.validity,
+                old,
+                fresh,
+                bid.validity,
+                ask.validity,
+            );
+            requote32(&mut desk.session.book.left, old, fresh, bid.left, ask.left);
+            requote32(
+                &mut desk.session.book.limit,
+                old,
+                fresh,
+                bid.limit,
+                ask.limit,
+            );
+            requote8(
+                &mut desk.session.book.quoted,
+                old,
+                fresh,
+                bid.quoted,
+                ask.quoted,
+            );
             put8(&mut desk.rows, fresh.bid, narrow(row));
             put8(&mut desk.rows, fresh.ask, narrow(row));
+            desk.members[row] = e.member;
+            if row == desk.count {
+                desk.count = row + 1;
+            }
             Quoted {
                 answer: 0,
-                bid: first.number,
-                ask: second.number,
-                desk: entered_as(desk, later, e.member, row),
+                bid: bid.number,
+                ask: ask.number,
+                desk,
             }
         }
     }

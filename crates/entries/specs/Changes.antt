@@ -2,6 +2,7 @@
 use Prim.Native.Nat.{ℕ, _+_, _/_}
 use mathlib.Core.Bool.{false, not}
 use mathlib.Core.Path.{_≡_}
+use mathlib.Core.List.{List}
 use lib.ListN.{set}
 use Rattle.terms.specs.Bounds.{places}
 use Rattle.terms.specs.Kinds.{isPlace}
@@ -23,6 +24,14 @@ use Rattle.entries.specs.Entry.{controlReference, orderChecks, entered, 
 -- a session with a change
 abbrev pub changed : Session → Change → Session
 changed s c = withBook s (c .given) (written (s .book) (set (s .book .taken) (c .place / wordPlaces) (c .word)) (c .place) (c .values))
+
+-- .. and a session whose columns are stored one by one is this session
+pub stored-as : (s : Session) (c : Change) {taken number member side validity left limit quoted : List ℕ} → taken ≡ set (s .book .taken) (c .place / wordPlaces) (c .word)
+    → number ≡ set (s .book .number) (c .place) (c .values .number) → member ≡ set (s .book .member) (c .place) (c .values .member)
+    → side ≡ set (s .book .side) (c .place) (c .values .side) → validity ≡ set (s .book .validity) (c .place) (c .values .validity)
+    → left ≡ set (s .book .left) (c .place) (c .values .left) → limit ≡ set (s .book .limit) (c .place) (c .values .limit) → quoted ≡ set (s .book .quoted) (c .place) (c .values .quoted)
+    → withBook s (c .given) (record { taken = taken; number = number; member = member; side = side; validity = validity; left = left; limit = limit; quoted = quoted }) ≡ changed s c
+stored-as s c a b d e f g h i = rw (a, b, d, e, f, g, h, i)
 
 -- what an order and a deletion change in a session
 abbrev pub orderIn : Session → Entry → Effect

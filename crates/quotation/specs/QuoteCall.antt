@@ -14,7 +14,7 @@ use Rattle.places.specs.Places.{lowestFree, isShort, markedAt}
 use Rattle.book.specs.declared.{Book.Book}
 use Rattle.quotes.specs.declared.{Pair.Pair}
 use Rattle.book.specs.Columns.{stored}
-use Rattle.quotes.specs.Quotes.{quotePlaces, withoutPair, quotePlaceIn, requotedBook}
+use Rattle.quotes.specs.Quotes.{quotePlaces, withoutPair, quotePlaceIn, requoted, requotedWords, requotedBook}
 use Rattle.quotes.specs.Without.{quote-place-in, without-taken, requoted-stored}
 use Rattle.refusals.specs.Checks.{Check, firstHit, answered, answered-refused, answered-done, answered-cases}
 use Rattle.refusals.specs.Rows.{quoteRows}
@@ -31,6 +31,15 @@ use Rattle.quotation.specs.Quote.{bookWithout, quoteChecks, bidEntered, 
 -- a session with a quote's change
 abbrev pub requotedIn : Session → QuoteChange → Session
 requotedIn s c = withBook s (c .given) (requotedBook (s .book) (c .old) (c .fresh) (c .bid) (c .ask))
+
+-- .. and a session whose columns are requoted one by one is this session
+pub requoted-as : (s : Session) (c : QuoteChange) {taken number member side validity left limit quoted : List ℕ} → taken ≡ requotedWords (s .book .taken) (c .old) (c .fresh)
+    → number ≡ requoted (s .book .number) (c .old) (c .fresh) (c .bid .number) (c .ask .number) → member ≡ requoted (s .book .member) (c .old) (c .fresh) (c .bid .member) (c .ask .member)
+    → side ≡ requoted (s .book .side) (c .old) (c .fresh) (c .bid .side) (c .ask .side) → validity ≡ requoted (s .book .validity) (c .old) (c .fresh) (c .bid .validity) (c .ask .validity)
+    → left ≡ requoted (s .book .left) (c .old) (c .fresh) (c .bid .left) (c .ask .left) → limit ≡ requoted (s .book .limit) (c .old) (c .fresh) (c .bid .limit) (c .ask .limit)
+    → quoted ≡ requoted (s .book .quoted) (c .old) (c .fresh) (c .bid .quoted) (c .ask .quoted)
+    → withBook s (c .given) (record { taken = taken; number = number; member = member; side = side; validity = validity; left = left; limit = limit; quoted = quoted }) ≡ requotedIn s c
+requoted-as s c a b d e f g h i = rw (a, b, d, e, f, g, h, i)
 
 -- where the columns say that the old sides stand
 abbrev pub oldIn : Session → ℕ → Pair

@@ -1,12 +1,19 @@
 use mathlib.Core.Path.{_≡_, sym, ap, _∙_}
-use Prim.Native.Nat.{_<_}
+use Prim.Native.Nat.{_+_, _<_}
+use mathlib.Core.Bool.{cond}
+use lib.Dec.{eqb}
+use lib.ListN.{set}
+use native.Mathlib.Omega.{arith}
+use borrow.Author.Tests.{eq-eqb, ne-eqb}
 use borrow.Author.Needs.{needs}
 use Rattle.terms.specs.Bounds.{places}
 use Rattle.effects.specs.Effects.{order-place}
 use Rattle.entries.specs.Entry.{controlReference}
+use Rattle.entries.specs.Changes.{stored-as}
 use Rattle.squares.specs.Square.{squareMembers}
+use Rattle.desk.specs.declared.{Desk.Desk}
 use Rattle.desk.specs.Desk.{isBeyond}
-use Rattle.desk.specs.EntryCalls.{beyond-is, orderIn, enteredBy, entered-by, order-row}
+use Rattle.desk.specs.EntryCalls.{beyond-is, entering-as, orderIn, enteredBy, entered-by, order-row}
 use Rattle.desk.proofs.entering.order.Statement.{statement}
 use Rattle.desk.proofs.entering.order.Tie as tie
 
@@ -44,17 +51,44 @@ enum-known-effect c = search needs
 enum-known-effect-2 : tie.Need-enum-known-effect-2
 enum-known-effect-2 c = search needs
 
-changed-requires : tie.Need-changed-requires
-changed-requires c κs = placed c
+put-word-requires : tie.Need-put-word-requires
+put-word-requires c κs = omega (arith, placed (c .before .before .before))
 
-narrow-requires : tie.Need-narrow-requires
-narrow-requires c κs = row-small (c .before .before)
+put32-requires : tie.Need-put32-requires
+put32-requires c κs = placed (c .before .before .before .before .before)
+
+put16-requires : tie.Need-put16-requires
+put16-requires c κs = placed (c .before .before .before .before .before .before .before)
 
 put8-requires : tie.Need-put8-requires
-put8-requires c κs = placed (c .before .before .before)
+put8-requires c κs = placed (c .before .before .before .before .before .before .before .before .before)
 
-entered-as-requires : tie.Need-entered-as-requires
-entered-as-requires c κs = row-small (c .before .before .before .before)
+put8-requires-2 : tie.Need-put8-requires-2
+put8-requires-2 c κs = placed (c .before .before .before .before .before .before .before .before .before .before .before)
+
+put32-requires-2 : tie.Need-put32-requires-2
+put32-requires-2 c κs = placed (c .before .before .before .before .before .before .before .before .before .before .before .before .before)
+
+put32-requires-3 : tie.Need-put32-requires-3
+put32-requires-3 c κs = placed (c .before .before .before .before .before .before .before .before .before .before .before .before .before .before .before)
+
+put8-requires-3 : tie.Need-put8-requires-3
+put8-requires-3 c κs = placed (c .before .before .before .before .before .before .before .before .before .before .before .before .before .before .before .before .before)
+
+narrow-requires : tie.Need-narrow-requires
+narrow-requires c κs = row-small (c .before .before .before .before .before .before .before .before .before .before .before .before .before .before .before .before .before .before .before)
+
+put8-requires-4 : tie.Need-put8-requires-4
+put8-requires-4 c κs = placed (c .before .before .before .before .before .before .before .before .before .before .before .before .before .before .before .before .before .before .before .before)
+
+mul-desk : tie.Need-mul-desk
+mul-desk c = let h = row-small (c .before .before .before .before .before .before .before .before .before .before .before .before .before .before .before .before .before .before .before .before .before) in omega arith
+
+element-write-desk : tie.Need-element-write-desk
+element-write-desk c = row-small (c .before .before .before .before .before .before .before .before .before .before .before .before .before .before .before .before .before .before .before .before .before)
+
+add-desk : tie.Need-add-desk
+add-desk c = let h = row-small (c .before .before .before .before .before .before .before .before .before .before .before .before .before .before .before .before .before .before .before .before .before .before) in omega arith
 
 returns : tie.Need-returns
 returns c =
@@ -64,10 +98,35 @@ returns c =
 
 returns-2 : tie.Need-returns-2
 returns-2 c =
-    let e = c .before .before .before .before .before .before .before .before in
+    let e = c .before .before .before .before .before .before .before .before .before .before .before .before .before .before .before .before .before .before .before .before .before .before .before .before .before in
     let a = start e .args in
-    rw (c .entered-as .ensures, c .before .put8 .ensures, c .before .before .narrow .ensures, c .before .before .before .before .changed .ensures, e .before .before .before .before .before .row-of .ensures)
-    (ap (enteredBy (a .t1) (a .e)) (sym (c .before .before .before .before .before .before .effect2 .given .1) ∙ effect-in e) ∙ entered-by (a .t1) (a .e))
+    let row = c .before .before .before .before .before .before .before .before .before .before .before .before .before .before .before .before .before .before .before .before .before .before .before .before .before .before .before .before .before .before .row-of in
+    let change = c .before .before .before .before .before .before .before .before .before .before .before .before .before .before .before .before .before .before .before .before .before .before .before .effect2 .given in
+    let session = stored-as (a .t1 .session) (change .0 .0) (c .before .before .before .before .before .before .before .before .before .before .before .before .before .before .before .before .before .before .put-word .ensures) (c .before .before .before .before .before .before .before .before .before .before .before .before .before .before .before .before .put32 .ensures)
+    (c .before .before .before .before .before .before .before .before .before .before .before .before .before .before .put16 .ensures) (c .before .before .before .before .before .before .before .before .before .before .before .before .put8 .ensures) (c .before .before .before .before .before .before .before .before .before .before .put82 .ensures)
+    (c .before .before .before .before .before .before .before .before .put322 .ensures) (c .before .before .before .before .before .before .put323 .ensures) (c .before .before .before .before .put83 .ensures) in
+    let rows = rw (c .before .before .narrow .ensures) at (c .before .put84 .ensures) in
+    let count : row .result + 1 ≡ cond (eqb (row .result) (a .t1 .count)) (row .result + 1) (a .t1 .count) = rw (eq-eqb (row .result) (a .t1 .count) (c .if1 .taken)) in
+    let desk = entering-as (a .t1) (a .e .member) (set (a .t1 .rows) (change .0 .0 .place)) session (row .ensures) rows count in
+    ap (λ (d : Desk). record { answer = 0; number = change .0 .0 .given; desk = d }) desk
+    ∙ ap (enteredBy (a .t1) (a .e)) (sym (change .1) ∙ effect-in e)
+    ∙ entered-by (a .t1) (a .e)
+
+returns-3 : tie.Need-returns-3
+returns-3 c =
+    let e = c .before .before .before .before .before .before .before .before .before .before .before .before .before .before .before .before .before .before .before .before .before .before .before .before .before in
+    let a = start e .args in
+    let row = c .before .before .before .before .before .before .before .before .before .before .before .before .before .before .before .before .before .before .before .before .before .before .before .before .before .before .before .before .before .before .row-of in
+    let change = c .before .before .before .before .before .before .before .before .before .before .before .before .before .before .before .before .before .before .before .before .before .before .before .effect2 .given in
+    let session = stored-as (a .t1 .session) (change .0 .0) (c .before .before .before .before .before .before .before .before .before .before .before .before .before .before .before .before .before .before .put-word .ensures) (c .before .before .before .before .before .before .before .before .before .before .before .before .before .before .before .before .put32 .ensures)
+    (c .before .before .before .before .before .before .before .before .before .before .before .before .before .before .put16 .ensures) (c .before .before .before .before .before .before .before .before .before .before .before .before .put8 .ensures) (c .before .before .before .before .before .before .before .before .before .before .put82 .ensures)
+    (c .before .before .before .before .before .before .before .before .put322 .ensures) (c .before .before .before .before .before .before .put323 .ensures) (c .before .before .before .before .put83 .ensures) in
+    let rows = rw (c .before .before .narrow .ensures) at (c .before .put84 .ensures) in
+    let count : a .t1 .count ≡ cond (eqb (row .result) (a .t1 .count)) (row .result + 1) (a .t1 .count) = rw (ne-eqb (row .result) (a .t1 .count) (c .if1 .left)) in
+    let desk = entering-as (a .t1) (a .e .member) (set (a .t1 .rows) (change .0 .0 .place)) session (row .ensures) rows count in
+    ap (λ (d : Desk). record { answer = 0; number = change .0 .0 .given; desk = d }) desk
+    ∙ ap (enteredBy (a .t1) (a .e)) (sym (change .1) ∙ effect-in e)
+    ∙ entered-by (a .t1) (a .e)
 
 pub order-spec : {M : Type 1} → statement M
 order-spec =
@@ -77,9 +136,19 @@ order-spec =
     order-effect-requires
     enum-known-effect
     enum-known-effect-2
-    changed-requires
-    narrow-requires
+    put-word-requires
+    put32-requires
+    put16-requires
     put8-requires
-    entered-as-requires
+    put8-requires-2
+    put32-requires-2
+    put32-requires-3
+    put8-requires-3
+    narrow-requires
+    put8-requires-4
+    mul-desk
+    element-write-desk
+    add-desk
     returns
-    returns-2)
+    returns-2
+    returns-3)

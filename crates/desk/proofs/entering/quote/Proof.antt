@@ -1,9 +1,16 @@
 use mathlib.Core.Path.{_≡_, sym, ap, _∙_}
-use Prim.Native.Nat.{_<_}
+use Prim.Native.Nat.{ℕ, _+_, _<_}
+use mathlib.Core.Bool.{cond}
+use lib.Dec.{eqb}
+use lib.ListN.{set}
+use native.Mathlib.Omega.{arith}
+use borrow.Author.Tests.{eq-eqb, ne-eqb}
 use borrow.Author.Needs.{needs}
 use Rattle.terms.specs.Bounds.{places}
+use Rattle.quotation.specs.QuoteCall.{requoted-as}
 use Rattle.squares.specs.Square.{squareMembers}
-use Rattle.desk.specs.EntryCalls.{beyond-is, quoteIn, quotedBy, quoted-by, quote-row, quote-placed}
+use Rattle.desk.specs.declared.{Desk.Desk}
+use Rattle.desk.specs.EntryCalls.{beyond-is, entering-as, quoteIn, quotedBy, quoted-by, quote-row, quote-placed}
 use Rattle.desk.proofs.entering.quote.Statement.{statement}
 use Rattle.desk.proofs.entering.quote.Tie as tie
 
@@ -47,23 +54,50 @@ enum-known-effect c = search needs
 enum-known-effect-2 : tie.Need-enum-known-effect-2
 enum-known-effect-2 c = search needs
 
-requoted-requires : tie.Need-requoted-requires
-requoted-requires c κs = placed (c .before .before .before)
+requote-words-requires : tie.Need-requote-words-requires
+requote-words-requires c κs = search needs
+
+requote32-requires : tie.Need-requote32-requires
+requote32-requires c κs = placed (c .before .before .before .before .before .before .before .before)
+
+requote16-requires : tie.Need-requote16-requires
+requote16-requires c κs = placed (c .before .before .before .before .before .before .before .before .before .before)
+
+requote8-requires : tie.Need-requote8-requires
+requote8-requires c κs = placed (c .before .before .before .before .before .before .before .before .before .before .before .before)
+
+requote8-requires-2 : tie.Need-requote8-requires-2
+requote8-requires-2 c κs = placed (c .before .before .before .before .before .before .before .before .before .before .before .before .before .before)
+
+requote32-requires-2 : tie.Need-requote32-requires-2
+requote32-requires-2 c κs = placed (c .before .before .before .before .before .before .before .before .before .before .before .before .before .before .before .before)
+
+requote32-requires-3 : tie.Need-requote32-requires-3
+requote32-requires-3 c κs = placed (c .before .before .before .before .before .before .before .before .before .before .before .before .before .before .before .before .before .before)
+
+requote8-requires-3 : tie.Need-requote8-requires-3
+requote8-requires-3 c κs = placed (c .before .before .before .before .before .before .before .before .before .before .before .before .before .before .before .before .before .before .before .before)
 
 narrow-requires : tie.Need-narrow-requires
-narrow-requires c κs = row-small (c .before .before .before .before .before)
+narrow-requires c κs = row-small (c .before .before .before .before .before .before .before .before .before .before .before .before .before .before .before .before .before .before .before .before .before .before)
 
 put8-requires : tie.Need-put8-requires
-put8-requires c κs = placed (c .before .before .before .before .before .before) .0
+put8-requires c κs = placed (c .before .before .before .before .before .before .before .before .before .before .before .before .before .before .before .before .before .before .before .before .before .before .before) .0
 
 narrow-requires-2 : tie.Need-narrow-requires-2
-narrow-requires-2 c κs = row-small (c .before .before .before .before .before .before .before .before)
+narrow-requires-2 c κs = row-small (c .before .before .before .before .before .before .before .before .before .before .before .before .before .before .before .before .before .before .before .before .before .before .before .before .before)
 
 put8-requires-2 : tie.Need-put8-requires-2
-put8-requires-2 c κs = placed (c .before .before .before .before .before .before .before .before .before) .1
+put8-requires-2 c κs = placed (c .before .before .before .before .before .before .before .before .before .before .before .before .before .before .before .before .before .before .before .before .before .before .before .before .before .before) .1
 
-entered-as-requires : tie.Need-entered-as-requires
-entered-as-requires c κs = row-small (c .before .before .before .before .before .before .before .before .before .before)
+mul-desk : tie.Need-mul-desk
+mul-desk c = let h = row-small (c .before .before .before .before .before .before .before .before .before .before .before .before .before .before .before .before .before .before .before .before .before .before .before .before .before .before .before) in omega arith
+
+element-write-desk : tie.Need-element-write-desk
+element-write-desk c = row-small (c .before .before .before .before .before .before .before .before .before .before .before .before .before .before .before .before .before .before .before .before .before .before .before .before .before .before .before)
+
+add-desk : tie.Need-add-desk
+add-desk c = let h = row-small (c .before .before .before .before .before .before .before .before .before .before .before .before .before .before .before .before .before .before .before .before .before .before .before .before .before .before .before .before) in omega arith
 
 returns : tie.Need-returns
 returns c =
@@ -73,10 +107,31 @@ returns c =
 
 returns-2 : tie.Need-returns-2
 returns-2 c =
-    let e = c .before .before .before .before .before .before .before .before .before .before .before .before .before .before in
+    let e = c .before .before .before .before .before .before .before .before .before .before .before .before .before .before .before .before .before .before .before .before .before .before .before .before .before .before .before .before .before .before .before in
     let a = start e .args in
-    rw (c .entered-as .ensures, c .before .put82 .ensures, c .before .before .before .before .put8 .ensures, c .before .before .narrow2 .ensures, c .before .before .before .before .before .narrow .ensures, c .before .before .before .before .before .before .before .requoted .ensures, e .before .before .before .before .before .before .before .before .before .before .before .before .before .before .before .row-of .ensures)
-    (ap (quotedBy (a .t1) (a .e)) (sym (c .before .before .before .before .before .before .before .before .before .before .before .before .effect2 .given .1) ∙ effect-in e) ∙ quoted-by (a .t1) (start e .pre) (a .e))
+    let row = c .before .before .before .before .before .before .before .before .before .before .before .before .before .before .before .before .before .before .before .before .before .before .before .before .before .before .before .before .before .before .before .before .before .before .before .before .before .before .before .before .before .before .before .before .before .before .row-of in
+    let (change, is) = c .before .before .before .before .before .before .before .before .before .before .before .before .before .before .before .before .before .before .before .before .before .before .before .before .before .before .before .before .before .effect2 .given in
+    let session = requoted-as (a .t1 .session) (change .0) (c .before .before .before .before .before .before .before .before .before .before .before .before .before .before .before .before .before .before .before .before .before .requote-words .ensures) (c .before .before .before .before .before .before .before .before .before .before .before .before .before .before .before .before .before .before .before .requote32 .ensures) (c .before .before .before .before .before .before .before .before .before .before .before .before .before .before .before .before .before .requote16 .ensures) (c .before .before .before .before .before .before .before .before .before .before .before .before .before .before .before .requote8 .ensures) (c .before .before .before .before .before .before .before .before .before .before .before .before .before .requote82 .ensures) (c .before .before .before .before .before .before .before .before .before .before .before .requote322 .ensures) (c .before .before .before .before .before .before .before .before .before .requote323 .ensures) (c .before .before .before .before .before .before .before .requote83 .ensures) in
+    let rows = rw (c .before .before .narrow2 .ensures, c .before .before .before .before .put8 .ensures, c .before .before .before .before .before .narrow .ensures) at (c .before .put82 .ensures) in
+    let count : row .result + 1 ≡ cond (eqb (row .result) (a .t1 .count)) (row .result + 1) (a .t1 .count) = rw (eq-eqb (row .result) (a .t1 .count) (c .if1 .taken)) in
+    let desk = entering-as (a .t1) (a .e .member) (λ (row : ℕ). set (set (a .t1 .rows) (change .0 .fresh .bid) row) (change .0 .fresh .ask) row) session (row .ensures) rows count in
+    ap (λ (d : Desk). record { answer = 0; bid = change .0 .bid .number; ask = change .0 .ask .number; desk = d }) desk
+    ∙ ap (quotedBy (a .t1) (a .e)) (sym is ∙ effect-in e)
+    ∙ quoted-by (a .t1) (start e .pre) (a .e)
+
+returns-3 : tie.Need-returns-3
+returns-3 c =
+    let e = c .before .before .before .before .before .before .before .before .before .before .before .before .before .before .before .before .before .before .before .before .before .before .before .before .before .before .before .before .before .before .before in
+    let a = start e .args in
+    let row = c .before .before .before .before .before .before .before .before .before .before .before .before .before .before .before .before .before .before .before .before .before .before .before .before .before .before .before .before .before .before .before .before .before .before .before .before .before .before .before .before .before .before .before .before .before .before .row-of in
+    let (change, is) = c .before .before .before .before .before .before .before .before .before .before .before .before .before .before .before .before .before .before .before .before .before .before .before .before .before .before .before .before .before .effect2 .given in
+    let session = requoted-as (a .t1 .session) (change .0) (c .before .before .before .before .before .before .before .before .before .before .before .before .before .before .before .before .before .before .before .before .before .requote-words .ensures) (c .before .before .before .before .before .before .before .before .before .before .before .before .before .before .before .before .before .before .before .requote32 .ensures) (c .before .before .before .before .before .before .before .before .before .before .before .before .before .before .before .before .before .requote16 .ensures) (c .before .before .before .before .before .before .before .before .before .before .before .before .before .before .before .requote8 .ensures) (c .before .before .before .before .before .before .before .before .before .before .before .before .before .requote82 .ensures) (c .before .before .before .before .before .before .before .before .before .before .before .requote322 .ensures) (c .before .before .before .before .before .before .before .before .before .requote323 .ensures) (c .before .before .before .before .before .before .before .requote83 .ensures) in
+    let rows = rw (c .before .before .narrow2 .ensures, c .before .before .before .before .put8 .ensures, c .before .before .before .before .before .narrow .ensures) at (c .before .put82 .ensures) in
+    let count : a .t1 .count ≡ cond (eqb (row .result) (a .t1 .count)) (row .result + 1) (a .t1 .count) = rw (ne-eqb (row .result) (a .t1 .count) (c .if1 .left)) in
+    let desk = entering-as (a .t1) (a .e .member) (λ (row : ℕ). set (set (a .t1 .rows) (change .0 .fresh .bid) row) (change .0 .fresh .ask) row) session (row .ensures) rows count in
+    ap (λ (d : Desk). record { answer = 0; bid = change .0 .bid .number; ask = change .0 .ask .number; desk = d }) desk
+    ∙ ap (quotedBy (a .t1) (a .e)) (sym is ∙ effect-in e)
+    ∙ quoted-by (a .t1) (start e .pre) (a .e)
 
 pub quote-spec : {M : Type 1} → statement M
 quote-spec =
@@ -88,11 +143,21 @@ quote-spec =
     quote-effect-requires
     enum-known-effect
     enum-known-effect-2
-    requoted-requires
+    requote-words-requires
+    requote32-requires
+    requote16-requires
+    requote8-requires
+    requote8-requires-2
+    requote32-requires-2
+    requote32-requires-3
+    requote8-requires-3
     narrow-requires
     put8-requires
     narrow-requires-2
     put8-requires-2
-    entered-as-requires
+    mul-desk
+    element-write-desk
+    add-desk
     returns
-    returns-2)
+    returns-2
+    returns-3)

@@ -7,13 +7,13 @@ use Rattle.terms.specs.Bounds.{tradeListLength, places}
 use Rattle.book.specs.Hints.{sound-numbered}
 use Rattle.session.specs.Sound.{legalPrice}
 use Rattle.lines.specs.Line.{numberedLine, doneLine, quoteLine}
-use Rattle.entries.specs.Changes.{changed}
-use Rattle.quotation.specs.QuoteCall.{requotedIn}
+use Rattle.entries.specs.Changes.{changed, stored-as}
+use Rattle.quotation.specs.QuoteCall.{requotedIn, requoted-as}
 use Rattle.transcript.specs.declared.{Stepped.Stepped}
 use Rattle.transcript.specs.Transcript.{step}
 use Rattle.transcript.specs.Steps.{recordRoom, WroteStep, wrote-alone, quiet, does-found, wrote-as}
 use Rattle.transcript.specs.TellLaws.{next-record}
-use Rattle.transcript.specs.InPlace.{HintedIn, quotes-known, still-hinted, quote-hinted, stored-as, requoted-as}
+use Rattle.transcript.specs.InPlace.{HintedIn, quotes-known, still-hinted, quote-hinted}
 use Rattle.transcript.specs.Underway.{Underway, underway-first, underway-next, underway-stop}
 use borrow.Author.Needs.{needs}
 use native.Mathlib.Omega.{arith}
