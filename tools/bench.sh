@@ -1,10 +1,10 @@
 #!/bin/sh
-# make bench: what the calls cost, as differences of runs of the crates entry_cost and auction_cost, each of which makes one call by its input;
-# then what the session program costs beside the same in C, bench/strong.c and bench/plain.c.
+# make bench: what the calls cost, as differences of runs of the crates entry_cost, auction_cost and desk_cost, each of which makes one call by its
+# input; then what the session program costs beside the same in C, bench/strong.c and bench/plain.c.
 cd "$(dirname "$0")/.." || exit 1
 dir=$(mktemp -d) || exit 1
 trap 'rm -rf "$dir"' EXIT
-rt check entry_cost auction_cost replay >"$dir/log" 2>&1 || {
+rt check entry_cost auction_cost desk_cost replay >"$dir/log" 2>&1 || {
     tail -n 20 "$dir/log" >&2
     exit 1
 }
@@ -68,6 +68,40 @@ fail() {
 }
 # shellcheck source=tools/x86.sh
 . tools/x86.sh
+
+# What the square costs (02 K5). By value a desk is moved for each of the orders that fill its book, some 36 million bytes that a trace has one by
+# one: what can do without string moves is counted without.
+loops=--no-erms
+[ -n "$emulator" ] || loops=
+# in_loops CRATE INPUT: instructions, all copies made by loops
+in_loops() {
+    printf %s "$2" >"$dir/stdin"
+    sh tools/count.sh ${loops:+"$loops"} "target/bin/$1" "$dir/stdin"
+}
+# opening CRATE ORDERS: what an opening of 512 such orders costs there
+opening() {
+    none=$(in_loops "$1" "d$2n") || exit 1
+    called=$(in_loops "$1" "d$2a") || exit 1
+    more "$none" "$called" | cut -d ' ' -f 1
+}
+echo
+wide 'the square, in loops' without with ratio
+for orders in m:mixed 'o:one limit' 'w:the worst'; do
+    without=$(opening auction_cost "${orders%%:*}") || exit 1
+    with=$(opening desk_cost "${orders%%:*}") || exit 1
+    wide "opening, 512, ${orders#*:}" "$without" "$with" "$(echo "$without $with" | awk '{ printf "%.2f", $2 / $1 }')"
+done
+none=$(run desk_cost xmn) || exit 1
+order=$(run desk_cost xmo) || exit 1
+# shellcheck disable=SC2046
+{
+    row 'x86-64' instructions 'bytes moved'
+    row 'one order with the square' $(more "$none" "$order")
+}
+printf %s dwa >"$dir/stdin"
+stack=$(sh tools/stack.sh ${loops:+"$loops"} target/bin/desk_cost desk_auction::auction "$dir/stdin") || exit 1
+echo "stack of an auction with the square: $stack bytes"
+
 lib=$tools/lib
 for part in "$tools/bin/clang" "$tools/bin/ld.lld" "$lib/Scrt1.o" "$lib/crti.o" "$lib/crtn.o" "$lib/libc.so.6"; do
     [ -e "$part" ] || fail "the kit has no $part: nothing here builds C for x86-64"

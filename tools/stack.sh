@@ -1,7 +1,10 @@
 #!/bin/sh
-# stack.sh PROGRAM FUNCTION [STDIN]: prints how many bytes of stack a call of a function takes in an x86-64 program, with all that it
-# calls: its return address to the lowest stack pointer before it returns. Of several calls the most; `-` where nothing can watch it.
-[ $# -ge 2 ] || { sed -n 2,3p "$0"; exit 2; }
+# stack.sh [--no-erms] PROGRAM FUNCTION [STDIN]: prints how many bytes of stack a call of a function takes in an x86-64 program, with all
+# that it calls: its return address to the lowest stack pointer before it returns. Of several calls the most; `-` where nothing can watch it. A
+# program that moves much is watched sooner without erms, as count.sh says.
+cpu=
+[ "$1" != --no-erms ] || { cpu=max,-erms; shift; }
+[ $# -ge 2 ] || { sed -n 2,4p "$0"; exit 2; }
 program=$1
 function=$2
 in=${3:-/dev/null}
@@ -51,7 +54,7 @@ awk -v program="\"$program\"" -v at="$at" '
     !top && start && /^RIP=/ && substr($1, 5) == start { top = low = rsp }
     END { if (most) printf "%d\n", most + 8 }' "$dir/trace" >"$dir/most" &
 reader=$!
-env -i "$emulator" "$single" -d nochain,cpu,strace -D "$dir/trace" "$@" <"$in" >/dev/null || {
+env -i "$emulator" ${cpu:+-cpu "$cpu"} "$single" -d nochain,cpu,strace -D "$dir/trace" "$@" <"$in" >/dev/null || {
     # it may wait for a trace that never comes
     kill "$reader" 2>/dev/null
     fail "the emulator did not run $program"
