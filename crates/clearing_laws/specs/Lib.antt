@@ -4,3 +4,4 @@
 pub mod Runs
 pub mod Plain
 pub mod Owed
+pub mod Members

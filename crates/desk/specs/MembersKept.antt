@@ -10,8 +10,8 @@ use lib.Dec.{eqb}
 use lib.ListN.{length, getD, set, take, length-append}
 use lib.Seq.{length-take-le, take-suc-set, getD-take, getD-set-same, getD-set-other, set-getD}
 use Rattle.book.specs.Sound.{same-or-not}
-use Rattle.squares.specs.Square.{squareMembers, rowOf}
-use Rattle.squares.specs.Rows.{row-at-most, row-holds, row-before, row-behind}
+use Rattle.squares.specs.Square.{squareMembers, rowOf, joined}
+use Rattle.squares.specs.Rows.{joined-again, joined-first, row-at-most, row-holds, row-before, row-behind}
 
 -- no member stands twice among the first so many
 abbrev pub InOrder : List ℕ → ℕ → Type 0
@@ -22,6 +22,7 @@ pub record Entered (before : List ℕ) (members : List ℕ) (count m row : ℕ) 
   pub in-order : InOrder members count
   pub here : row ≡ rowOf (take count members) m
   pub below : row < length (take count members)
+  pub joins : take count members ≡ joined before m
   pub kept : (x : ℕ) → rowOf before x < length before → (rowOf (take count members) x ≡ rowOf before x) × (rowOf before x < length (take count members))
 
 module _ (members : List ℕ) (long : length members ≡ squareMembers) (count : ℕ) (few : count ≤ squareMembers) (in-order : InOrder members count)
@@ -58,7 +59,7 @@ module _ (members : List ℕ) (long : length members ≡ squareMembers) (count :
       go false e =
           let apart = eqb-false row count e in
           let h : row < count = omega (arith, row-at-most before m, as-many) in
-          rw (there h) (record { few = few; in-order = in-order; here = is; below = omega (arith, as-many); kept = λ x k. (refl, k) })
+          rw (there h) (record { few = few; in-order = in-order; here = is; below = omega (arith, as-many); joins = sym (joined-again before m (omega (arith, as-many))); kept = λ x k. (refl, k) })
       go true e =
           let last : row ≡ count = eqb-true row count e in
           let grown = behind last in
@@ -67,5 +68,6 @@ module _ (members : List ℕ) (long : length members ≡ squareMembers) (count :
             in-order = λ i h. rw grown (behind-ordered last i h);
             here = rw grown (omega (arith, as-many, row-behind before m (omega (arith, as-many))));
             below = rw grown (omega (arith, as-many, length-append before (m ∷ [])));
+            joins = grown ∙ sym (joined-first before m (omega (arith, as-many)));
             kept = λ x k. rw grown (row-before before (m ∷ []) x k, omega (arith, length-append before (m ∷ [])));
           }

@@ -29,7 +29,7 @@ use Rattle.quotation.specs.declared.{Quoted.Quoted as PlainQuoted}
 use Rattle.quotation.specs.Quote as quotation
 use Rattle.quotation.specs.QuoteSound.{quoted-sound, accepted-quote, with-bid}
 use Rattle.quotes.specs.Without.{without-sound}
-use Rattle.squares.specs.Square.{squareMembers, squareCells, total, Small}
+use Rattle.squares.specs.Square.{squareMembers, squareCells, total, Small, joined}
 use Rattle.desk.specs.declared.{Desk.Desk, Entered.Entered, Quoted.Quoted}
 use Rattle.desk.specs.Desk.{freshDesk, known, rowIn, isBeyond, entering, withTotals}
 use Rattle.desk.specs.Calls.{started, deleted, orderChecks, orderRefused, orderDone, entered, quoteChecks, quoteRefused, quoteDone, quoted}
@@ -112,6 +112,10 @@ module _ (d : Desk) (sound : SoundDesk d) (m : ℕ) (room-left : isBeyond d m �
   -- the members with it
   after : kept.Entered (known d) (set (d .members) (rowIn d m) m) (entering d m (d .session) (d .rows) .count) m (rowIn d m)
   after = kept.members-entered (d .members) (sound .members-long) (d .count) (sound .few) (sound .in-order) m (rowIn d m) refl row-room
+
+  -- .. in the order of their first accepted entry
+  pub entering-joins : (s : Session) (rows : List ℕ) → known (entering d m s rows) ≡ joined (known d) m
+  entering-joins s rows = after .joins
 
   abbrev knownAfter : List ℕ
   knownAfter = known (entering d m (d .session) (d .rows))

@@ -9,7 +9,7 @@ use lib.Dec.{eqb, leb}
 use lib.ListN.{length, getD}
 use Rattle.lists.specs.Tests.{tests, same-test}
 use Rattle.lists.specs.Choice.{any}
-use Rattle.squares.specs.Square.{squareMembers, rowOf}
+use Rattle.squares.specs.Square.{squareMembers, rowOf, joined}
 
 -- one of those entered
 abbrev isIn : List ℕ → ℕ → Bool
@@ -38,6 +38,21 @@ row-out (x ∷ xs) m e = go (eqb x m) (row-out xs m) e
     go : (t : Bool) → (isIn xs m ≡ false → rowOf xs m ≡ length xs) → (t || isIn xs m) ≡ false → cond t 0 (suc (rowOf xs m)) ≡ suc (length xs)
     go true h e = absurd (true≢false e)
     go false h e = ap suc (h e)
+
+-- it stays where it is if it has a row, and else comes behind the last
+pub joined-again : (xs : List ℕ) (m : ℕ) → rowOf xs m < length xs → joined xs m ≡ xs
+joined-again xs m h = go (isIn xs m) refl
+  where
+    go : (t : Bool) → isIn xs m ≡ t → cond t xs (xs ++ (m ∷ [])) ≡ xs
+    go true e = refl
+    go false e = absurd (omega (arith, row-out xs m e))
+
+pub joined-first : (xs : List ℕ) (m : ℕ) → rowOf xs m ≡ length xs → joined xs m ≡ xs ++ (m ∷ [])
+joined-first xs m h = go (isIn xs m) refl
+  where
+    go : (t : Bool) → isIn xs m ≡ t → cond t xs (xs ++ (m ∷ [])) ≡ xs ++ (m ∷ [])
+    go true e = absurd (omega (arith, row-in xs m e))
+    go false e = refl
 
 -- a square is full for a member where its row is none of the square's
 pub beyond-by-row : (xs : List ℕ) (m : ℕ) → length xs ≤ squareMembers → leb squareMembers (rowOf xs m) ≡ (not (any (λ x. eqb x m) xs) && leb squareMembers (length xs))

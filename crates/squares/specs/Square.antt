@@ -9,6 +9,7 @@ use borrow.Author.Tests.{eq-eqb, ne-eqb}
 use lib.Dec.{eqb}
 use lib.ListN.{length, getD, set, take, drop, length-set, length-append, length-drop, drop-of-length-le}
 use lib.Seq.{length-take-le, drop-cons, set-at, append-snoc, getD-take, getD-drop}
+use Rattle.lists.specs.Choice.{any}
 use Rattle.lists.specs.Sums.{_∈_, sum}
 use Rattle.terms.specs.Bounds.{places}
 use Rattle.trades.specs.declared.{Trade.Trade}
@@ -25,6 +26,10 @@ squareCells = squareMembers * squareMembers
 abbrev pub rowOf : List ℕ → ℕ → ℕ
 rowOf [] m = 0
 rowOf (x ∷ xs) m = cond (eqb x m) 0 (suc (rowOf xs m))
+
+-- a member joins behind those entered, unless it is one of them
+abbrev pub joined : List ℕ → ℕ → List ℕ
+joined ms m = cond (any (λ x. eqb x m) ms) ms (ms ++ (m ∷ []))
 
 -- the cell of two rows, the buying member's first
 abbrev pub cellOf : ℕ → ℕ → ℕ
