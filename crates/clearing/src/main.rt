@@ -1,16 +1,15 @@
 // The clearing program: runs a session file from standard input in a session that keeps the square, prints the session's lines, and then who owes whom
 // (02 K5).
 mod owing;
-mod stepping;
 
 use desk::Desk;
+use desk_steps::carried_out;
 use feed::moved_to_front;
 use feed::read_some;
 use libc::STDERR_FILENO;
 use libc::STDOUT_FILENO;
 use owing::show_owed;
 use session::Session;
-use stepping::carried_out;
 use telling::last_lines;
 use transcript::Next;
 use transcript::Stop;

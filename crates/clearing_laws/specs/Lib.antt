@@ -3,5 +3,6 @@
 -- the words of the statements
 pub mod Runs
 pub mod Plain
+pub mod Lines
 pub mod Owed
 pub mod Members

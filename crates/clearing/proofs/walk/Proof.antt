@@ -9,6 +9,7 @@ use Rattle.terms.specs.Bounds.{tradeListLength}
 use Rattle.desk.specs.Sound.{SoundDesk}
 use Rattle.desk.specs.SoundAfter.{fresh-desk-sound}
 use Rattle.transcript.specs.TellLaws.{next-record, next-stop}
+use Rattle.desk_steps.specs.StepLaws.{desk-step-room, desk-step-sound}
 use native.Mathlib.Omega.{arith}
 use borrow.Author.Needs.{needs}
 use Rattle.clearing.specs.Within.{ends-within}
@@ -96,13 +97,15 @@ loop-less c = search needs
 loop-again : tie.Need-loop-again Inv-loop μ-loop
 loop-again c =
     let l = c .before .before .before .before .before .before .before .before .before .before .before .before .before in
-    let r = c .before .before .before .before .carried-out in (
-      r .ensures .0,
-      omega (arith, record-next (c .before .before .before .before .before .before .before .before) .0, held-long l),
+    let r = c .before .before .before .before .carried-out in
+    let next = c .before .before .before .before .before .before .before .before in
+    let asked = next .next .given .0 .0 in (
+      rw (r .ensures .0) (desk-step-sound (l .loop .desk) asked (l .loop .inv .0)),
+      omega (arith, record-next next .0, held-long l),
       l .loop .inv .2,
       l .loop .inv .3,
       r .kept .1 .1 .1 .1 .0 ∙ l .loop .inv .4,
-      omega (arith, r .ensures .1, r .kept .1 .1 .1 .1 .0),
+      omega (arith, r .ensures .1 .0, r .kept .1 .1 .1 .1 .0, desk-step-room (l .loop .count + 1) (l .loop .desk) asked, record-next next .1, l .loop .inv .5),
       omega (arith, l .loop .inv .6, c .before .before .before .before .before .before .before .before .before .before .before .before .loop-test .taken),
       r .kept .1 .1 .1 .0 ∙ l .loop .inv .7,
     )

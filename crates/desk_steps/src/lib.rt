@@ -1,4 +1,5 @@
-// A record carried out in a session that keeps the square, and its lines.
+// A record of a session file carried out in a session that keeps the square, and its lines written (01 "Session file"; 02 K5). Its promise says which lines
+// these are and which desk is left.
 use desk::Desk;
 use lines::Line;
 use lines::Word;
@@ -14,9 +15,13 @@ ghost use mathlib.Core.Path.{_≡_};
 ghost use Prim.Native.Nat.{_+_, _≤_};
 ghost use lib.ListN.{length};
 ghost use Rattle.terms.specs.Bounds.{tradeListLength};
+ghost use Rattle.records.specs.declared.kinds.Record.the-variants.{Start as Start·record, Order as Order·record, Delete as Delete·record, Auction as Auction·record, Quote as Quote·record};
+ghost use Rattle.lists.specs.Put.{Wrote};
+ghost use Rattle.lines.specs.Line.{lineOf};
 ghost use Rattle.lines.specs.Lengths.{lineRoom};
 ghost use Rattle.transcript.specs.Steps.{recordRoom};
 ghost use Rattle.desk.specs.Sound.{SoundDesk};
+ghost use Rattle.desk_steps.specs.Steps.{twoNumbers, WroteDesk, deskStep};
 
 // The desk after a record, and the place behind its lines.
 pub struct Stepped {
@@ -35,7 +40,7 @@ fn put_answer(
     second: u32,
 ) -> usize
     requires { ⌜ at + lineRoom ≤ length (now out) ⌝ }
-    ensures { λ r. ⌜ r ≤ length (now (out .entry)) ⌝ }
+    ensures { λ r. ⌜ Wrote (now (out .entry)) (now (out .exit)) at r (lineOf place (twoNumbers word answer first second)) ⌝ }
 {
     let line = Line {
         word,
@@ -50,7 +55,7 @@ fn put_answer(
 
 fn started(desk: Desk, start: Start, place: u64, out: &mut [u8], at: usize) -> Stepped
     requires { ⌜ SoundDesk desk × (at + lineRoom ≤ length (now out)) ⌝ }
-    ensures { λ r. ⌜ SoundDesk (r .desk) × (r .at ≤ length (now (out .entry))) ⌝ }
+    ensures { λ r. ⌜ WroteDesk place (now (out .entry)) (now (out .exit)) at r (deskStep desk (Start·record start)) ⌝ }
 {
     let r = desk::start(desk, start);
     let end = put_answer(out, at, place, Word::Start, r.answer, 0, 0);
@@ -63,7 +68,7 @@ fn started(desk: Desk, start: Start, place: u64, out: &mut [u8], at: usize) -> S
 
 fn entered(desk: Desk, entry: Entry, place: u64, out: &mut [u8], at: usize) -> Stepped
     requires { ⌜ SoundDesk desk × (at + lineRoom ≤ length (now out)) ⌝ }
-    ensures { λ r. ⌜ SoundDesk (r .desk) × (r .at ≤ length (now (out .entry))) ⌝ }
+    ensures { λ r. ⌜ WroteDesk place (now (out .entry)) (now (out .exit)) at r (deskStep desk (Order·record entry)) ⌝ }
 {
     let r = desk::order(desk, entry);
     let end = put_answer(out, at, place, Word::Order, r.answer, r.number, 0);
@@ -76,7 +81,7 @@ fn entered(desk: Desk, entry: Entry, place: u64, out: &mut [u8], at: usize) -> S
 
 fn deleted(desk: Desk, deletion: Deletion, place: u64, out: &mut [u8], at: usize) -> Stepped
     requires { ⌜ SoundDesk desk × (at + lineRoom ≤ length (now out)) ⌝ }
-    ensures { λ r. ⌜ SoundDesk (r .desk) × (r .at ≤ length (now (out .entry))) ⌝ }
+    ensures { λ r. ⌜ WroteDesk place (now (out .entry)) (now (out .exit)) at r (deskStep desk (Delete·record deletion)) ⌝ }
 {
     let r = desk::delete(desk, deletion.number, deletion.member);
     let end = put_answer(out, at, place, Word::Delete, r.answer, 0, 0);
@@ -89,7 +94,7 @@ fn deleted(desk: Desk, deletion: Deletion, place: u64, out: &mut [u8], at: usize
 
 fn quoted(desk: Desk, entry: QuoteEntry, place: u64, out: &mut [u8], at: usize) -> Stepped
     requires { ⌜ SoundDesk desk × (at + lineRoom ≤ length (now out)) ⌝ }
-    ensures { λ r. ⌜ SoundDesk (r .desk) × (r .at ≤ length (now (out .entry))) ⌝ }
+    ensures { λ r. ⌜ WroteDesk place (now (out .entry)) (now (out .exit)) at r (deskStep desk (Quote·record entry)) ⌝ }
 {
     let r = desk::quote(desk, entry);
     let end = put_answer(out, at, place, Word::Quote, r.answer, r.bid, r.ask);
@@ -110,7 +115,7 @@ fn auctioned(
     at: usize,
 ) -> Stepped
     requires { ⌜ SoundDesk desk × (length (now list) ≡ tradeListLength) × (at + recordRoom ≤ length (now out)) ⌝ }
-    ensures { λ r. ⌜ SoundDesk (r .desk) × (r .at ≤ length (now (out .entry))) ⌝ }
+    ensures { λ r. ⌜ WroteDesk place (now (out .entry)) (now (out .exit)) at r (deskStep desk (Auction·record which)) ⌝ }
 {
     let r = desk_auction::auction(desk, which, list);
     let result = r.result;
@@ -124,18 +129,18 @@ fn auctioned(
     }
 }
 
-pub(crate) fn carried_out(
+pub fn carried_out(
     desk: Desk,
-    record: Record,
+    asked: Record,
     place: u64,
     list: &mut [u32],
     out: &mut [u8],
     at: usize,
 ) -> Stepped
     requires { ⌜ SoundDesk desk × (length (now list) ≡ tradeListLength) × (at + recordRoom ≤ length (now out)) ⌝ }
-    ensures { λ r. ⌜ SoundDesk (r .desk) × (r .at ≤ length (now (out .entry))) ⌝ }
+    ensures { λ r. ⌜ WroteDesk place (now (out .entry)) (now (out .exit)) at r (deskStep desk asked) ⌝ }
 {
-    match record {
+    match asked {
         Record::Start(start) => started(desk, start, place, out, at),
         Record::Order(entry) => entered(desk, entry, place, out, at),
         Record::Delete(deletion) => deleted(desk, deletion, place, out, at),
