@@ -30,6 +30,10 @@ isBeyond d member = not (any (λ m. eqb m member) (known d)) && leb squareMember
 abbrev pub withSession : Desk → Session → Desk
 withSession d s = record { session = s; members = d .members; count = d .count; rows = d .rows; totals = d .totals }
 
+-- how many are entered once a member with this row is
+abbrev pub countWith : ℕ → ℕ → ℕ
+countWith count row = cond (eqb row count) (row + 1) count
+
 -- an accepted entry: its member is entered under its row, if it was not before, and its places have this row
 abbrev pub entering : Desk → ℕ → Session → List ℕ → Desk
 entering d member s rows =
@@ -37,7 +41,7 @@ entering d member s rows =
     record {
       session = s;
       members = set (d .members) row member;
-      count = cond (eqb row (d .count)) (row + 1) (d .count);
+      count = countWith (d .count) row;
       rows = rows;
       totals = d .totals;
     }

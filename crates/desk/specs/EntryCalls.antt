@@ -1,10 +1,10 @@
 -- Order and quote of a desk from what their code learns on the way: the effect decides, and an accepted entry is no thirty-third member's.
 use Prim.Native.Nat.{ℕ, _+_, _<_}
-use mathlib.Core.Bool.{Bool, true, false, cond}
+use mathlib.Core.Bool.{Bool, true, false}
 use mathlib.Core.Path.{_≡_, refl, sym, ap, _∙_}
 use mathlib.Core.List.{List}
 use borrow.Author.Tests.{leb-false}
-use lib.Dec.{eqb, leb}
+use lib.Dec.{leb}
 use lib.ListN.{set, length}
 use lib.Seq.{length-take-le}
 use native.Mathlib.Omega.{arith}
@@ -30,7 +30,7 @@ use Rattle.session.specs.declared.{Session.Session}
 use Rattle.squares.specs.Square.{squareMembers}
 use Rattle.squares.specs.Rows.{beyond-by-row}
 use Rattle.desk.specs.declared.{Desk.Desk, Entered.Entered, Quoted.Quoted}
-use Rattle.desk.specs.Desk.{known, rowIn, isBeyond, entering}
+use Rattle.desk.specs.Desk.{known, rowIn, isBeyond, countWith, entering}
 use Rattle.desk.specs.Calls.{orderChecks, orderRefused, entered, quoteRefused, quoteDone, quoted}
 use Rattle.desk.specs.Sound.{SoundDesk}
 
@@ -46,7 +46,7 @@ beyond-is d sound member =
 
 -- a desk whose parts are stored one by one, the member's row among them
 pub entering-as : (d : Desk) (member : ℕ) {session session' : Session} {row count : ℕ} {rows : List ℕ} (rows' : ℕ → List ℕ) → session ≡ session' → row ≡ rowIn d member → rows ≡ rows' row
-    → count ≡ cond (eqb row (d .count)) (row + 1) (d .count)
+    → count ≡ countWith (d .count) row
     → _≡_ {A = Desk} (record { session = session; members = set (d .members) row member; count = count; rows = rows; totals = d .totals }) (entering d member session' (rows' (rowIn d member)))
 entering-as d member rows' s r rows count = rw (s, rows, count, r)
 

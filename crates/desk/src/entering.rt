@@ -11,19 +11,16 @@ use effects::order_effect;
 use effects::quote_effect;
 use places::WORD_PLACES;
 use places::put_word;
-use quotes::Pair;
-use quotes::requote_words;
-use quotes::requote8;
-use quotes::requote16;
-use quotes::requote32;
+use quotation::old_pair;
+use quotation::requoted;
 use squares::MEMBERS;
 use squares::row_of;
 use terms::Entry;
 use terms::QuoteEntry;
-use terms::Side;
 ghost use mathlib.Core.Path.{_≡_};
 ghost use Prim.Native.Nat.{_<_};
 ghost use Rattle.squares.specs.Square.{squareMembers};
+ghost use Rattle.desk.specs.Desk.{countWith};
 ghost use Rattle.desk.specs.Calls.{entered as Calls·entered, quoted as Calls·quoted};
 ghost use Rattle.desk.specs.Sound.{SoundDesk};
 
@@ -32,6 +29,17 @@ fn narrow(row: usize) -> u8
     ensures { λ r. ⌜ r ≡ row ⌝ }
 {
     row as u8
+}
+
+// How many members are entered once one with this row is.
+fn count_with(count: usize, row: usize) -> usize
+    requires { ⌜ row < squareMembers ⌝ }
+    ensures { λ r. ⌜ r ≡ countWith count row ⌝ }
+{
+    if row == count {
+        return row + 1;
+    }
+    count
 }
 
 // Order: refusals 1, 2, 4, 5, 6, 7, 8, 16, 9, 10. The change is stored as in `entries`, in the desk itself: a session stored by itself would be one
@@ -73,9 +81,7 @@ pub fn order(mut desk: Desk, e: Entry) -> Entered
             put8(&mut desk.session.book.quoted, place, values.quoted);
             put8(&mut desk.rows, place, narrow(row));
             desk.members[row] = e.member;
-            if row == desk.count {
-                desk.count = row + 1;
-            }
+            desk.count = count_with(desk.count, row);
             Entered {
                 answer: 0,
                 number: c.given,
@@ -94,28 +100,20 @@ pub fn quote(mut desk: Desk, e: QuoteEntry) -> Quoted
     let session = desk.session;
     let phase = session.phase;
     let parameters = session.parameters;
-    let bid = quotes::quote_place(
-        &desk.session.book.quoted,
-        &desk.session.book.member,
-        &desk.session.book.side,
+    let old = old_pair(
+        &session.book.quoted,
+        &session.book.member,
+        &session.book.side,
         e.member,
-        Side::BUY,
-    );
-    let ask = quotes::quote_place(
-        &desk.session.book.quoted,
-        &desk.session.book.member,
-        &desk.session.book.side,
-        e.member,
-        Side::SELL,
     );
     let effect = quote_effect(
         phase,
         parameters,
         parameters.reference,
         MEMBERS <= row,
-        desk.session.given,
-        &desk.session.book.taken,
-        Pair { bid, ask },
+        session.given,
+        &session.book.taken,
+        old,
         e,
     );
     match effect {
@@ -126,55 +124,15 @@ pub fn quote(mut desk: Desk, e: QuoteEntry) -> Quoted
             desk,
         },
         QuoteEffect::Done(c) => {
-            let old = c.old;
             let fresh = c.fresh;
             let bid = c.bid;
             let ask = c.ask;
-            desk.session.given = c.given;
-            requote_words(&mut desk.session.book.taken, old, fresh);
-            requote32(
-                &mut desk.session.book.number,
-                old,
-                fresh,
-                bid.number,
-                ask.number,
-            );
-            requote16(
-                &mut desk.session.book.member,
-                old,
-                fresh,
-                bid.member,
-                ask.member,
-            );
-            requote8(&mut desk.session.book.side, old, fresh, bid.side, ask.side);
-            requote8(
-                &mut desk.session.book.validity,
-                old,
-                fresh,
-                bid.validity,
-                ask.validity,
-            );
-            requote32(&mut desk.session.book.left, old, fresh, bid.left, ask.left);
-            requote32(
-                &mut desk.session.book.limit,
-                old,
-                fresh,
-                bid.limit,
-                ask.limit,
-            );
-            requote8(
-                &mut desk.session.book.quoted,
-                old,
-                fresh,
-                bid.quoted,
-                ask.quoted,
-            );
+            let later = requoted(session, c);
+            desk.session = later;
             put8(&mut desk.rows, fresh.bid, narrow(row));
             put8(&mut desk.rows, fresh.ask, narrow(row));
             desk.members[row] = e.member;
-            if row == desk.count {
-                desk.count = row + 1;
-            }
+            desk.count = count_with(desk.count, row);
             Quoted {
                 answer: 0,
                 bid: bid.number,

@@ -41,12 +41,13 @@ pub requoted-as : (s : Session) (c : QuoteChange) {taken number member side vali
     → withBook s (c .given) (record { taken = taken; number = number; member = member; side = side; validity = validity; left = left; limit = limit; quoted = quoted }) ≡ requotedIn s c
 requoted-as s c a b d e f g h i = rw (a, b, d, e, f, g, h, i)
 
--- where the columns say that the old sides stand
+-- where the columns say that the sides of a member's quote stand
+abbrev pub oldPair : List ℕ → List ℕ → List ℕ → ℕ → Pair
+oldPair quoted members sides member =
+    record { bid = quotePlaceIn quoted members sides member (sideNumber Buy) 0 places; ask = quotePlaceIn quoted members sides member (sideNumber Sell) 0 places }
+
 abbrev pub oldIn : Session → ℕ → Pair
-oldIn s member = record {
-  bid = quotePlaceIn (s .book .quoted) (s .book .member) (s .book .side) member (sideNumber Buy) 0 places;
-  ask = quotePlaceIn (s .book .quoted) (s .book .member) (s .book .side) member (sideNumber Sell) 0 places;
-}
+oldIn s member = oldPair (s .book .quoted) (s .book .member) (s .book .side) member
 
 -- what a quote changes in a session
 abbrev pub quoteIn : Session → QuoteEntry → QuoteEffect

@@ -3,11 +3,13 @@ use effects::QuoteChange;
 use effects::QuoteEffect;
 use effects::quote_effect;
 use quotes::Pair;
+use quotes::quote_place;
 use quotes::requote_words;
 use quotes::requote8;
 use quotes::requote16;
 use quotes::requote32;
 use session::Session;
+use terms::Place;
 use terms::QuoteEntry;
 use terms::Side;
 ghost use mathlib.Core.Path.{_≡_};
@@ -15,13 +17,27 @@ ghost use Prim.Native.Nat.{_<_};
 ghost use Rattle.terms.specs.Bounds.{places};
 ghost use Rattle.session.specs.Sound.{Sound};
 ghost use Rattle.quotation.specs.Quote.{quoted as Quote·quoted};
-ghost use Rattle.quotation.specs.QuoteCall.{requotedIn, quotedWith};
+ghost use Rattle.quotation.specs.QuoteCall.{oldPair, requotedIn, quotedWith};
 
 pub struct Quoted {
     pub answer: u8,
     pub bid: u32,
     pub ask: u32,
     pub session: Session,
+}
+
+// Where the sides of a member's quote stand.
+pub fn old_pair<'a>(
+    quoted: &'a [u8; Place::COUNT],
+    members: &'a [u16; Place::COUNT],
+    sides: &'a [u8; Place::COUNT],
+    member: u16,
+) -> Pair
+    ensures { λ r. ⌜ r ≡ oldPair (now (quoted .entry)) (now (members .entry)) (now (sides .entry)) member ⌝ }
+{
+    let bid = quote_place(quoted, members, sides, member, Side::BUY);
+    let ask = quote_place(quoted, members, sides, member, Side::SELL);
+    Pair { bid, ask }
 }
 
 // A session with a quote in place of the member's old one, by value; a loop that holds a session makes the same stores in its own.
@@ -73,19 +89,11 @@ pub fn quote(session: Session, e: QuoteEntry) -> Quoted
 {
     let phase = session.phase;
     let parameters = session.parameters;
-    let bid = quotes::quote_place(
+    let old = old_pair(
         &session.book.quoted,
         &session.book.member,
         &session.book.side,
         e.member,
-        Side::BUY,
-    );
-    let ask = quotes::quote_place(
-        &session.book.quoted,
-        &session.book.member,
-        &session.book.side,
-        e.member,
-        Side::SELL,
     );
     let effect = quote_effect(
         phase,
@@ -94,7 +102,7 @@ pub fn quote(session: Session, e: QuoteEntry) -> Quoted
         false,
         session.given,
         &session.book.taken,
-        Pair { bid, ask },
+        old,
         e,
     );
     match effect {

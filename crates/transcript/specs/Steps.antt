@@ -39,10 +39,9 @@ use Rattle.effects.specs.declared.quoting.{QuoteChange.QuoteChange, QuoteEffect
 use Rattle.effects.specs.QuoteEffects.{quoteEffect, TwoSides, two-sides}
 use Rattle.entries.specs.Entry.{controlReference, entered, deleted}
 use Rattle.quotation.specs.Quote.{quoted}
-use Rattle.quotation.specs.QuoteCall.{requotedIn, oldIn, quoteIn, quotedBy, quoted-by, quote-placed}
+use Rattle.quotation.specs.QuoteCall.{requotedIn, oldPair, oldIn, quoteIn, quotedBy, quoted-by, quote-placed}
 use Rattle.quotation.specs.QuoteSound.{quoted-sound}
 use Rattle.quotes.specs.declared.{Pair.Pair}
-use Rattle.quotes.specs.Quotes.{quotePlaceIn}
 use Rattle.quotes.specs.QuoteHints.{OneQuoteIn, Hinted}
 use Rattle.entries.specs.Changes.{changed, orderIn, deleteIn, enteredBy, deletedBy, entered-by, deleted-by}
 use Rattle.lines.specs.declared.{words.Word.Word, Line.Line}
@@ -106,10 +105,6 @@ deleteDoing (Effect.Done c) = Doing.Done Word.Delete c
 abbrev pub quoteDoing : QuoteEffect → Doing
 quoteDoing (QuoteEffect.Refused n) = Doing.Refused Word.Quote n
 quoteDoing (QuoteEffect.Done c) = Doing.Quoted c
-
--- where the columns say that the sides of a member's quote stand
-abbrev pub oldPair : List ℕ → List ℕ → List ℕ → ℕ → Pair
-oldPair quoted members sides member = record { bid = quotePlaceIn quoted members sides member 1 0 places; ask = quotePlaceIn quoted members sides member 2 0 places }
 
 -- one side of a quote for a member at most, and those that rest are hinted at
 pub record QuotesKnown (quoted members sides bids asks : List ℕ) : Type 0 where

@@ -33,8 +33,9 @@ ghost use Rattle.records.specs.declared.kinds.Record.the-variants.{Start as Sta
 ghost use Rattle.book.specs.Hints.{Numbered};
 ghost use Rattle.session.specs.Sound.{Sound};
 ghost use Rattle.lines.specs.Lengths.{lineRoom};
+ghost use Rattle.quotation.specs.QuoteCall.{oldPair};
 ghost use Rattle.transcript.specs.Transcript.{auctionLine, step};
-ghost use Rattle.transcript.specs.Steps.{recordRoom, WroteStep, orderDoing, deleteDoing, quoteDoing, oldPair, QuotesKnown, doingOf};
+ghost use Rattle.transcript.specs.Steps.{recordRoom, WroteStep, orderDoing, deleteDoing, quoteDoing, QuotesKnown, doingOf};
 
 fn order_doing(effect: Effect) -> Doing
     ensures { λ r. ⌜ r ≡ orderDoing effect ⌝ }

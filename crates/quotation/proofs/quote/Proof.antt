@@ -5,17 +5,14 @@ use Rattle.quotation.proofs.quote.Statement.{statement}
 use Rattle.quotation.proofs.quote.Tie as tie
 
 abbrev start : tie.After-quote-effect → tie.Start
-start c = c .before .before .before .before .before .before .before .before .before .before .before .before .before .before
+start c = c .before .before .before .before .before .before .before .before .before
 
 -- the effect is the session's
 effect-in : (c : tie.After-quote-effect) → let a = start c .args in c .quote-effect .result ≡ quoteIn (a .t1) (a .e)
-effect-in c = rw (c .before .before .before .before .before .before .before .before .quote-place .ensures, c .before .before .before .quote-place2 .ensures) at (c .quote-effect .ensures)
+effect-in c = rw (c .before .before .before .old-pair .ensures) at (c .quote-effect .ensures)
 
-quote-place-requires : tie.Need-quote-place-requires
-quote-place-requires c κs = search needs
-
-quote-place-requires-2 : tie.Need-quote-place-requires-2
-quote-place-requires-2 c κs = search needs
+old-pair-requires : tie.Need-old-pair-requires
+old-pair-requires c κs = search needs
 
 quote-effect-requires : tie.Need-quote-effect-requires
 quote-effect-requires c κs = search needs
@@ -48,8 +45,7 @@ pub quote-spec : {M : Type 1} → statement M
 quote-spec =
     tie.close
     (tie.spec
-    quote-place-requires
-    quote-place-requires-2
+    old-pair-requires
     quote-effect-requires
     enum-known-effect
     enum-known-effect-2

@@ -1,10 +1,7 @@
 use mathlib.Core.Path.{_≡_, sym, ap, _∙_}
-use Prim.Native.Nat.{_+_, _<_}
-use mathlib.Core.Bool.{cond}
-use lib.Dec.{eqb}
+use Prim.Native.Nat.{_<_}
 use lib.ListN.{set}
 use native.Mathlib.Omega.{arith}
-use borrow.Author.Tests.{eq-eqb, ne-eqb}
 use borrow.Author.Needs.{needs}
 use Rattle.terms.specs.Bounds.{places}
 use Rattle.effects.specs.Effects.{order-place}
@@ -87,8 +84,8 @@ mul-desk c = let h = row-small (c .before .before .before .before .before .befor
 element-write-desk : tie.Need-element-write-desk
 element-write-desk c = row-small (c .before .before .before .before .before .before .before .before .before .before .before .before .before .before .before .before .before .before .before .before .before)
 
-add-desk : tie.Need-add-desk
-add-desk c = let h = row-small (c .before .before .before .before .before .before .before .before .before .before .before .before .before .before .before .before .before .before .before .before .before .before) in omega arith
+count-with-requires : tie.Need-count-with-requires
+count-with-requires c κs = row-small (c .before .before .before .before .before .before .before .before .before .before .before .before .before .before .before .before .before .before .before .before .before)
 
 returns : tie.Need-returns
 returns c =
@@ -101,31 +98,12 @@ returns-2 c =
     let e = c .before .before .before .before .before .before .before .before .before .before .before .before .before .before .before .before .before .before .before .before .before .before .before .before .before in
     let a = start e .args in
     let row = c .before .before .before .before .before .before .before .before .before .before .before .before .before .before .before .before .before .before .before .before .before .before .before .before .before .before .before .before .before .before .row-of in
-    let change = c .before .before .before .before .before .before .before .before .before .before .before .before .before .before .before .before .before .before .before .before .before .before .before .effect2 .given in
-    let session = stored-as (a .t1 .session) (change .0 .0) (c .before .before .before .before .before .before .before .before .before .before .before .before .before .before .before .before .before .before .put-word .ensures) (c .before .before .before .before .before .before .before .before .before .before .before .before .before .before .before .before .put32 .ensures)
-    (c .before .before .before .before .before .before .before .before .before .before .before .before .before .before .put16 .ensures) (c .before .before .before .before .before .before .before .before .before .before .before .before .put8 .ensures) (c .before .before .before .before .before .before .before .before .before .before .put82 .ensures)
-    (c .before .before .before .before .before .before .before .before .put322 .ensures) (c .before .before .before .before .before .before .put323 .ensures) (c .before .before .before .before .put83 .ensures) in
+    let (change, is) = c .before .before .before .before .before .before .before .before .before .before .before .before .before .before .before .before .before .before .before .before .before .before .before .effect2 .given in
+    let session = stored-as (a .t1 .session) (change .0) (c .before .before .before .before .before .before .before .before .before .before .before .before .before .before .before .before .before .before .put-word .ensures) (c .before .before .before .before .before .before .before .before .before .before .before .before .before .before .before .before .put32 .ensures) (c .before .before .before .before .before .before .before .before .before .before .before .before .before .before .put16 .ensures) (c .before .before .before .before .before .before .before .before .before .before .before .before .put8 .ensures) (c .before .before .before .before .before .before .before .before .before .before .put82 .ensures) (c .before .before .before .before .before .before .before .before .put322 .ensures) (c .before .before .before .before .before .before .put323 .ensures) (c .before .before .before .before .put83 .ensures) in
     let rows = rw (c .before .before .narrow .ensures) at (c .before .put84 .ensures) in
-    let count : row .result + 1 ≡ cond (eqb (row .result) (a .t1 .count)) (row .result + 1) (a .t1 .count) = rw (eq-eqb (row .result) (a .t1 .count) (c .if1 .taken)) in
-    let desk = entering-as (a .t1) (a .e .member) (set (a .t1 .rows) (change .0 .0 .place)) session (row .ensures) rows count in
-    ap (λ (d : Desk). record { answer = 0; number = change .0 .0 .given; desk = d }) desk
-    ∙ ap (enteredBy (a .t1) (a .e)) (sym (change .1) ∙ effect-in e)
-    ∙ entered-by (a .t1) (a .e)
-
-returns-3 : tie.Need-returns-3
-returns-3 c =
-    let e = c .before .before .before .before .before .before .before .before .before .before .before .before .before .before .before .before .before .before .before .before .before .before .before .before .before in
-    let a = start e .args in
-    let row = c .before .before .before .before .before .before .before .before .before .before .before .before .before .before .before .before .before .before .before .before .before .before .before .before .before .before .before .before .before .before .row-of in
-    let change = c .before .before .before .before .before .before .before .before .before .before .before .before .before .before .before .before .before .before .before .before .before .before .before .effect2 .given in
-    let session = stored-as (a .t1 .session) (change .0 .0) (c .before .before .before .before .before .before .before .before .before .before .before .before .before .before .before .before .before .before .put-word .ensures) (c .before .before .before .before .before .before .before .before .before .before .before .before .before .before .before .before .put32 .ensures)
-    (c .before .before .before .before .before .before .before .before .before .before .before .before .before .before .put16 .ensures) (c .before .before .before .before .before .before .before .before .before .before .before .before .put8 .ensures) (c .before .before .before .before .before .before .before .before .before .before .put82 .ensures)
-    (c .before .before .before .before .before .before .before .before .put322 .ensures) (c .before .before .before .before .before .before .put323 .ensures) (c .before .before .before .before .put83 .ensures) in
-    let rows = rw (c .before .before .narrow .ensures) at (c .before .put84 .ensures) in
-    let count : a .t1 .count ≡ cond (eqb (row .result) (a .t1 .count)) (row .result + 1) (a .t1 .count) = rw (ne-eqb (row .result) (a .t1 .count) (c .if1 .left)) in
-    let desk = entering-as (a .t1) (a .e .member) (set (a .t1 .rows) (change .0 .0 .place)) session (row .ensures) rows count in
-    ap (λ (d : Desk). record { answer = 0; number = change .0 .0 .given; desk = d }) desk
-    ∙ ap (enteredBy (a .t1) (a .e)) (sym (change .1) ∙ effect-in e)
+    let desk = entering-as (a .t1) (a .e .member) (set (a .t1 .rows) (change .0 .place)) session (row .ensures) rows (c .count-with .ensures) in
+    ap (λ (d : Desk). record { answer = 0; number = change .0 .given; desk = d }) desk
+    ∙ ap (enteredBy (a .t1) (a .e)) (sym is ∙ effect-in e)
     ∙ entered-by (a .t1) (a .e)
 
 pub order-spec : {M : Type 1} → statement M
@@ -148,7 +126,6 @@ order-spec =
     put8-requires-4
     mul-desk
     element-write-desk
-    add-desk
+    count-with-requires
     returns
-    returns-2
-    returns-3)
+    returns-2)
