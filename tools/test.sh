@@ -24,7 +24,8 @@ trap 'rm -f "$log" "$log.began"' EXIT
 # A release rests on target/gate: of which commit this run was, and whether the tree was that commit from its beginning to its end.
 : >"$log.began"
 before=$(. tools/facts.sh && commit && changes)
-{ rt ci 2>&1; echo $? >"$log.status"; } | tee "$log"
+# Four at a time, also on two processors: rt waits for all that it started before it goes on, and beside a long check others can end.
+{ RT_JOBS=${RT_JOBS:-4} rt ci 2>&1; echo $? >"$log.status"; } | tee "$log"
 status=$(cat "$log.status")
 rm -f "$log.status"
 [ "$status" -eq 0 ] || exit "$status"

@@ -2,7 +2,7 @@
 use mathlib.Core.Path.{_≡_, refl}
 use mathlib.Core.List.{[], _∷_}
 use Rattle.lines.specs.declared.{words.Word.Word}
-use Rattle.lines.specs.Text.{digits, decimal}
+use Rattle.text.specs.Text.{digits, decimal}
 use Rattle.lines.specs.Line.{lineOf, numberedLine, doneLine, quoteLine, tradeLine, faultLine, endLine}
 
 zero-printed : decimal 0 ≡ 48 ∷ []

@@ -5,8 +5,8 @@ use native.Mathlib.Omega.{arith}
 use lib.ListN.{length, take, length-append, length-take}
 use Rattle.trades.specs.declared.{Trade.Trade}
 use Rattle.lines.specs.declared.{words.Word.Word, Line.Line}
-use Rattle.lines.specs.Text.{mostDigits, decimal, space, newline, numeral, numeralRoom, texts, tradeWord, faultWord, endWord}
-use Rattle.lines.specs.Decimal.{decimal-length}
+use Rattle.text.specs.Text.{mostDigits, decimal, space, newline, numeral, numeralRoom, texts, tradeWord, faultWord, endWord}
+use Rattle.text.specs.Decimal.{decimal-length}
 use Rattle.lines.specs.Line.{numbersOf, numbers, worded, lineOf, tradeLine, tradeLines, faultLine, endLine}
 use Rattle.lines.specs.OneByOne.{texts-length, WroteAll}
 use Rattle.lines.specs.Words.{mostNumbers, word-length, word-numbers, wordNumbers, wordRoom, wordText}

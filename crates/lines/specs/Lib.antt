@@ -1,14 +1,12 @@
 -- The printed lines: 01 "Session file".
 
 -- the paper
-pub mod Text
 pub mod Words
 pub mod Line
 pub mod Examples
 -- its laws
 pub mod Lengths
 -- as the code computes it
-pub mod Decimal
 pub mod Placed
 pub mod OneByOne
 pub mod TradeLines

@@ -4,7 +4,7 @@ use mathlib.Core.List.{List, [], _∷_, _++_}
 use lib.ListN.{take}
 use Rattle.trades.specs.declared.{Trade.Trade}
 use Rattle.lines.specs.declared.{words.Word.Word, Line.Line}
-use Rattle.lines.specs.Text.{decimal, space, newline, numeral, texts, tradeWord, faultWord, endWord}
+use Rattle.text.specs.Text.{decimal, space, newline, numeral, texts, tradeWord, faultWord, endWord}
 use Rattle.lines.specs.Words.{wordNumbers, wordText}
 
 -- numbers, each behind a space, and the end of the line

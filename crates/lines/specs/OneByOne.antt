@@ -7,7 +7,7 @@ use native.Mathlib.Numerals.{add-one}
 use native.Mathlib.Omega.{arith}
 use lib.ListN.{length, getD, take, length-append}
 use lib.Seq.{take-suc, take-length}
-use Rattle.lines.specs.Text.{newline, numeral, texts}
+use Rattle.text.specs.Text.{newline, numeral, texts}
 use Rattle.lines.specs.Line.{numbers}
 use Rattle.lists.specs.Put.{Wrote, put-nothing, put-then}
 

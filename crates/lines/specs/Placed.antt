@@ -5,10 +5,10 @@ use mathlib.Core.List.{List, [], _∷_, _++_, append-assoc, append-nil}
 use native.Mathlib.Omega.{arith}
 use lib.ListN.{length, take}
 use Rattle.lines.specs.declared.{words.Word.Word, Line.Line}
-use Rattle.lines.specs.Text.{digit, decimal, space, newline, numeral}
+use Rattle.text.specs.Text.{digit, decimal, space, newline, numeral}
 use Rattle.lines.specs.Line.{numbersOf, numbers, worded, answerText, numberedLine, numberTold, doneLine}
 use Rattle.lists.specs.Put.{Wrote, put-then}
-use Rattle.lines.specs.Decimal.{digits-small}
+use Rattle.text.specs.Decimal.{digits-small}
 use Rattle.lines.specs.Words.{wordText, wordNumbers}
 
 -- a word, an answer of one digit and a byte behind it

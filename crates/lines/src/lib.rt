@@ -3,7 +3,6 @@ ghost use mathlib.Core.Path.{_≡_};
 ghost use Rattle.lines.specs.Line.{numberedLine};
 
 mod line_writer;
-mod text;
 mod words;
 
 pub use line_writer::done_line;

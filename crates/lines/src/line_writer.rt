@@ -1,12 +1,12 @@
 // The lines that the session program prints, each written into a lent buffer from a place on (01 "Session file"; 02 K2; D3).
 use crate::Line;
-use crate::text::put_byte;
-use crate::text::put_bytes;
-use crate::text::put_decimal;
-use crate::text::put_number;
 use crate::words::Word;
 use crate::words::put_word;
 use crate::words::word_numbers;
+use text::put_byte;
+use text::put_bytes;
+use text::put_decimal;
+use text::put_number;
 use trades::Trade;
 ghost use Prim.Native.Nat.{_+_, _*_, _≤_};
 ghost use lib.ListN.{length};

@@ -1,10 +1,10 @@
 // The words of lines: a kind of record has one, and as many numbers behind its answer (01 "Session file"; 02 K2).
-use crate::text::put_bytes;
+use text::put_bytes;
 ghost use mathlib.Core.Path.{_≡_};
 ghost use mathlib.Core.List.{_∷_};
 ghost use Prim.Native.Nat.{_+_, _≤_};
 ghost use lib.ListN.{length};
-ghost use Rattle.lines.specs.Text.{space};
+ghost use Rattle.text.specs.Text.{space};
 ghost use Rattle.lines.specs.Words.{wordText, wordNumbers, wordRoom};
 ghost use Rattle.lists.specs.Put.{Wrote};
 

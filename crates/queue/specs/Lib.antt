@@ -10,9 +10,6 @@ pub mod Distinct
 -- as the code computes it
 pub mod RankNumbers
 pub mod Placing
-pub mod Insertion
-pub mod Merging
 pub mod Keys
 pub mod Queue
 pub mod Reach
-pub mod Over

@@ -1,7 +1,5 @@
 // The queue: who takes part, and at what rank (01 "Who takes part, and at what rank").
-mod insertion;
 mod listed;
-mod merging;
 mod ranks;
 
 pub use listed::list_numbers;

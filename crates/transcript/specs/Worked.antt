@@ -5,7 +5,7 @@ use mathlib.Core.List.{List, [], _∷_}
 use Rattle.worked.specs.Computing.{computing}
 use Rattle.records.specs.Fields.{number, isLength}
 use Rattle.records.specs.Walk.{recordAt, walkFrom}
-use Rattle.lines.specs.Text.{digits}
+use Rattle.text.specs.Text.{digits}
 use Rattle.transcript.specs.Transcript.{linesFrom, printed}
 
 -- start; buy 50 at 100,200; buy 50 at 100,400; buy 50 at 100,200; sell 80 at 100,200; opening

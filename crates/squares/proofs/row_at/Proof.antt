@@ -5,7 +5,7 @@ use mathlib.Core.List.{_++_, append-nil}
 use native.Mathlib.Omega.{arith}
 use borrow.Author.Needs.{needs}
 use lib.ListN.{length, getD, take, drop}
-use Rattle.queue.specs.Over.{over-write, over-all}
+use Rattle.lists.specs.Over.{over-write, over-all}
 use Rattle.squares.specs.Square.{squareMembers, cellOf, rowAt, row-length, cell-in-row}
 use Rattle.squares.proofs.row_at.Statement.{statement}
 use Rattle.squares.proofs.row_at.Tie as tie

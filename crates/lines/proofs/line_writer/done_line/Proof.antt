@@ -1,10 +1,10 @@
 -- The place; then the word with its 0, and an order's number, or what any other line has.
 use mathlib.Core.List.{[], _∷_}
 use Rattle.lines.specs.declared.{words.Word.Word}
-use Rattle.lines.specs.Text.{decimal}
+use Rattle.text.specs.Text.{decimal}
 use Rattle.lines.specs.Line.{worded, answerText, doneLine}
 use Rattle.lists.specs.Put.{put-then}
-use Rattle.lines.specs.Decimal.{decimal-length}
+use Rattle.text.specs.Decimal.{decimal-length}
 use Rattle.lines.specs.Placed.{short-then, numbered-then, done-then}
 use native.Mathlib.Omega.{arith}
 use borrow.Author.Needs.{needs}

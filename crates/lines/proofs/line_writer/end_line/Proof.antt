@@ -1,6 +1,6 @@
 -- The word, then the number.
 use mathlib.Core.List.{[], _∷_}
-use Rattle.lines.specs.Text.{endWord}
+use Rattle.text.specs.Text.{endWord}
 use Rattle.lines.specs.Line.{numbers}
 use Rattle.lists.specs.Put.{put-then}
 use native.Mathlib.Omega.{arith}

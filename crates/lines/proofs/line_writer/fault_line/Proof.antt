@@ -1,7 +1,7 @@
 -- The place, then the word with its 1.
 use mathlib.Core.List.{[], _∷_}
-use Rattle.lines.specs.Text.{decimal, faultWord}
-use Rattle.lines.specs.Decimal.{decimal-length}
+use Rattle.text.specs.Text.{decimal, faultWord}
+use Rattle.text.specs.Decimal.{decimal-length}
 use Rattle.lines.specs.Line.{worded}
 use Rattle.lists.specs.Put.{put-then}
 use Rattle.lines.specs.Placed.{short-then}

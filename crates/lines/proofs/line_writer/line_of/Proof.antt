@@ -1,8 +1,8 @@
 -- The place, and what stands behind it.
 use native.Mathlib.Omega.{arith}
 use borrow.Author.Needs.{needs}
-use Rattle.lines.specs.Text.{decimal}
-use Rattle.lines.specs.Decimal.{decimal-length}
+use Rattle.text.specs.Text.{decimal}
+use Rattle.text.specs.Decimal.{decimal-length}
 use Rattle.lines.specs.Line.{answerText}
 use Rattle.lists.specs.Put.{put-then}
 use Rattle.lines.proofs.line_writer.line_of.Statement.{statement}

@@ -1,7 +1,7 @@
 -- Invariant: `WroteAll`, the first i numbers are written.
 use Prim.Native.Nat.{_-_, _≤_}
 use lib.ListN.{length, take}
-use Rattle.lines.specs.Text.{numeral}
+use Rattle.text.specs.Text.{numeral}
 use Rattle.lines.specs.OneByOne.{WroteAll, all-none, numbers-next, numbers-end}
 use Rattle.lines.specs.Lengths.{numbers-within}
 use borrow.Author.Needs.{needs}

@@ -3,10 +3,10 @@ use mathlib.Core.List.{[], _∷_}
 use native.Mathlib.Omega.{arith}
 use borrow.Author.Needs.{needs}
 use Rattle.lines.specs.declared.{words.Word.Word}
-use Rattle.lines.specs.Text.{decimal}
+use Rattle.text.specs.Text.{decimal}
 use Rattle.lines.specs.Words.{wordText}
 use Rattle.lines.specs.Line.{worded}
-use Rattle.lines.specs.Decimal.{decimal-length}
+use Rattle.text.specs.Decimal.{decimal-length}
 use Rattle.lines.specs.Placed.{last-then, numbered-then}
 use Rattle.lists.specs.Put.{put-then}
 use Rattle.lines.proofs.line_writer.quote_line.Statement.{statement}

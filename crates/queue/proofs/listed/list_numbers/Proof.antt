@@ -6,7 +6,7 @@ use native.Mathlib.Omega.{arith}
 use borrow.Author.Needs.{needs}
 use lib.ListN.{length, getD, take, drop, length-map, length-set}
 use Rattle.queue.specs.RankNumbers.{placeOfRank}
-use Rattle.queue.specs.Over.{over-write, over-all, getD-map}
+use Rattle.lists.specs.Over.{over-write, over-all, getD-map}
 use Rattle.queue.proofs.listed.list_numbers.Statement.{statement}
 use Rattle.queue.proofs.listed.list_numbers.Tie as tie
 

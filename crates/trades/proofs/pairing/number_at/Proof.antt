@@ -3,7 +3,7 @@ use mathlib.Core.Path.{sym}
 use borrow.Author.Needs.{needs}
 use lib.ListN.{getD}
 use Rattle.queue.specs.RankNumbers.{placeOfRank}
-use Rattle.queue.specs.Over.{getD-map}
+use Rattle.lists.specs.Over.{getD-map}
 use Rattle.trades.proofs.pairing.number_at.Statement.{statement}
 use Rattle.trades.proofs.pairing.number_at.Tie as tie
 
