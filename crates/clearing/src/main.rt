@@ -1,14 +1,12 @@
 // The clearing program: runs a session file from standard input in a session that keeps the square, prints the session's lines, and then who owes whom
 // (02 K5).
-mod owing;
-
 use desk::Desk;
 use desk_steps::carried_out;
 use feed::moved_to_front;
 use feed::read_some;
 use libc::STDERR_FILENO;
 use libc::STDOUT_FILENO;
-use owing::show_owed;
+use owing::owed_lines;
 use session::Session;
 use telling::last_lines;
 use transcript::Next;
@@ -121,5 +119,6 @@ fn main() {
     let mut input = io::large_buffer();
     let mut output = io::large_buffer();
     let desk = walk(&mut input, &mut output);
-    show_owed(&mut output, desk);
+    let end = owed_lines(&mut output, 0, desk);
+    print(&output[..end]);
 }

@@ -6,3 +6,4 @@ pub mod Plain
 pub mod Lines
 pub mod Owed
 pub mod Members
+pub mod OwesLines

@@ -12,7 +12,7 @@ use Rattle.lines.specs.Line.{numbers}
 use Rattle.lists.specs.Put.{Wrote, put-nothing, put-then}
 
 module _ {A : Type 0} (f : A → List ℕ) where
-  texts-append : (xs : List A) (x : A) → texts f (xs ++ (x ∷ [])) ≡ texts f xs ++ f x
+  pub texts-append : (xs : List A) (x : A) → texts f (xs ++ (x ∷ [])) ≡ texts f xs ++ f x
   texts-append [] x = append-nil (f x)
   texts-append (y ∷ xs) x = rw (texts-append xs x) (sym (append-assoc (f y) (texts f xs) (f x)))
 

@@ -9,6 +9,7 @@ pub use line_writer::done_line;
 pub use line_writer::end_line;
 pub use line_writer::fault_line;
 pub use line_writer::line_of;
+pub use line_writer::put_numbers;
 pub use line_writer::quote_line;
 pub use line_writer::trade_lines;
 pub use words::Word;

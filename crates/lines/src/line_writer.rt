@@ -19,7 +19,7 @@ ghost use Rattle.lists.specs.Put.{Wrote};
 const NEWLINE: u8 = 10;
 
 // Numbers, each behind a space, and the end of the line.
-fn put_numbers(out: &mut [u8], at: usize, xs: &[u64]) -> usize
+pub fn put_numbers(out: &mut [u8], at: usize, xs: &[u64]) -> usize
     requires { ⌜ at + numbersRoom (length (now xs)) ≤ length (now out) ⌝ }
     ensures { λ r. ⌜ Wrote (now (out .entry)) (now (out .exit)) at r (numbers (now (xs .entry))) ⌝ }
 {

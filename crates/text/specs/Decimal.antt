@@ -85,6 +85,24 @@ digits-length (suc n) x = go (ltb x 10) refl (digits-length n (x / 10))
 pub decimal-length : (x : ℕ) → length (decimal x) ≤ mostDigits
 decimal-length x = digits-length mostDigits x
 
+-- a number below a power of ten has no more digits than that says
+digits-short : (n f x : ℕ) → x < 10 ^ suc n → length (digits f x) ≤ suc n
+digits-short n zero x h = rw (digits-none x) (omega arith)
+digits-short zero (suc f) x h = rw (digits-small f x (omega (arith, h))) (omega arith)
+digits-short (suc n) (suc f) x h = go (ltb x 10) refl (digits-short n f (x / 10))
+  where
+    less : (p : ℕ) → x < p * 10 → x / 10 < p
+    less p b = omega (arith, b)
+
+    go : (b : Bool) → ltb x 10 ≡ b → (x / 10 < 10 ^ suc n → length (digits f (x / 10)) ≤ suc n) → length (digits (suc f) x) ≤ suc (suc n)
+    go true e later = rw (digits-small f x (ltb-true x 10 e)) (omega arith)
+    go false e later =
+        rw (digits-large f x (ltb-false x 10 e))
+        (omega (arith, length-append (digits f (x / 10)) (digit (x % 10) ∷ []), later (less (10 ^ suc n) (rw (pow-suc 10 (suc n)) at h))))
+
+pub decimal-short : (n x : ℕ) → x < 10 ^ suc n → length (decimal x) ≤ suc n
+decimal-short n x h = digits-short n mostDigits x h
+
 -- the hundreds of a number, then a pair
 pub hundreds-then : (old one two : List ℕ) (at p r x : ℕ) (hundreds : List ℕ) → at ≤ length old → 100 ≤ x → digits 18 (x / 100) ≡ hundreds
     → Wrote old one at p hundreds → Wrote one two p r (pair (x % 100)) → Wrote old two at r (decimal x)
