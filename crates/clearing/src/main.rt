@@ -15,7 +15,7 @@ use transcript::next_told;
 ghost use Prim.Native.Nat.{_≤_};
 ghost use lib.ListN.{length};
 ghost use Rattle.transcript.specs.Steps.{recordRoom};
-ghost use Rattle.desk.specs.Sound.{SoundDesk};
+ghost use Rattle.desk_steps.specs.Steps.{Reached};
 
 // A loop must end and nothing says that an input does: there are never more turns than bytes and reads.
 const MOST_TURNS: u64 = 1_099_511_627_776;
@@ -65,7 +65,7 @@ fn read_behind(input: &mut [u8], held: Held) -> Held
 // The records one by one, to the input's end or to a fault; the desk then.
 fn walk(input: &mut [u8], out: &mut [u8]) -> Desk
     requires { ⌜ recordRoom ≤ length (now out) ⌝ }
-    ensures { λ r. ⌜ SoundDesk r ⌝ }
+    ensures { λ r. ⌜ Reached r ⌝ }
 {
     let mut list = [0u32; Session::TRADE_LIST];
     let mut desk = Desk::fresh();

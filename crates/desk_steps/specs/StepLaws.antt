@@ -1,7 +1,7 @@
--- A record's lines have room, the desk after it is sound, and its lines may be written in one or in two.
+-- A record's lines have room, the desk after it is sound, its lines may be written in one or in two, and records lead from a fresh desk on.
 use Prim.Native.Nat.{ℕ, _≤_}
-use mathlib.Core.Path.{_≡_, refl, ap, _∙_}
-use mathlib.Core.List.{List, [], _++_, append-nil}
+use mathlib.Core.Path.{_≡_, refl, ap, subst, _∙_}
+use mathlib.Core.List.{List, [], _∷_, _++_, append-nil}
 use native.Mathlib.Omega.{arith}
 use lib.ListN.{length}
 use Rattle.lists.specs.Put.{Wrote}
@@ -13,12 +13,13 @@ use Rattle.transcript.specs.Transcript.{lent, stepLines}
 use Rattle.transcript.specs.Steps as plain
 use Rattle.transcript.specs.Steps.{recordRoom}
 use Rattle.desk.specs.declared.{Desk.Desk}
+use Rattle.desk.specs.Desk.{freshDesk}
 use Rattle.desk.specs.Sound.{SoundDesk}
-use Rattle.desk.specs.SoundAfter.{started-desk-sound, entered-desk-sound, deleted-desk-sound, quoted-desk-sound}
+use Rattle.desk.specs.SoundAfter.{fresh-desk-sound, started-desk-sound, entered-desk-sound, deleted-desk-sound, quoted-desk-sound}
 use Rattle.desk_auction.specs.Auctions.{auctioned}
 use Rattle.desk_auction.specs.SoundAfter.{auctioned-desk-sound}
 use Rattle.desk_steps.specs.declared.{Stepped.Stepped}
-use Rattle.desk_steps.specs.Steps.{DeskStep, deskStep, WroteDesk}
+use Rattle.desk_steps.specs.Steps.{DeskStep, deskStep, deskAfter, Reached, WroteDesk}
 
 -- a record without trades: its answer's line is all
 pub wrote-alone : (place : ℕ) (old new : List ℕ) (at : ℕ) (r : Stepped) (did done : DeskStep) → did ≡ done → did .told .trades ≡ []
@@ -53,3 +54,24 @@ desk-step-sound d (Record.Order e) h = entered-desk-sound d e h
 desk-step-sound d (Record.Delete x) h = deleted-desk-sound d (x .number) (x .member) h
 desk-step-sound d (Record.Auction which) h = auctioned-desk-sound d which lent h
 desk-step-sound d (Record.Quote e) h = quoted-desk-sound d e h
+
+-- a fresh desk is reached by none, and one more record leads on; each is sound
+pub reached-fresh : Reached freshDesk
+reached-fresh = record { records = []; leads = refl }
+
+after-one-more : (d : Desk) (rs : List Record) (r : Record) → deskAfter d (rs ++ (r ∷ [])) ≡ deskStep (deskAfter d rs) r .desk
+after-one-more d [] r = refl
+after-one-more d (x ∷ rs) r = after-one-more (deskStep d x .desk) rs r
+
+pub reached-next : (d : Desk) (r : Record) → Reached d → Reached (deskStep d r .desk)
+reached-next d r h = record {
+  records = h .records ++ (r ∷ []);
+  leads = after-one-more freshDesk (h .records) r ∙ ap (λ (e : Desk). deskStep e r .desk) (h .leads);
+}
+
+after-sound : (d : Desk) (rs : List Record) → SoundDesk d → SoundDesk (deskAfter d rs)
+after-sound d [] h = h
+after-sound d (r ∷ rs) h = after-sound (deskStep d r .desk) rs (desk-step-sound d r h)
+
+pub reached-sound : (d : Desk) → Reached d → SoundDesk d
+reached-sound d h = subst SoundDesk (h .leads) (after-sound freshDesk (h .records) fresh-desk-sound)

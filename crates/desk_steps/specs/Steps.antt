@@ -9,6 +9,7 @@ use Rattle.records.specs.declared.{kinds.Record.Record}
 use Rattle.lines.specs.declared.{words.Word.Word, Line.Line}
 use Rattle.transcript.specs.Transcript.{Step, lent, startStep, orderStep, deleteStep, quoteStep, auctionStep, tradesAnswered, stepLines, lastLines}
 use Rattle.desk.specs.declared.{Desk.Desk, Started.Started, Entered.Entered, Quoted.Quoted, Deleted.Deleted}
+use Rattle.desk.specs.Desk.{freshDesk}
 use Rattle.desk.specs.Calls.{started, entered, deleted, quoted}
 use Rattle.desk_auction.specs.declared.{Auctioned.Auctioned}
 use Rattle.desk_auction.specs.Auctions.{auctioned}
@@ -40,6 +41,16 @@ deskStep d (Record.Order e) = orderTold (entered d e)
 deskStep d (Record.Delete x) = deleteTold (deleted d (x .number) (x .member))
 deskStep d (Record.Auction which) = auctionTold (auctioned d which lent .returned) (tradesAnswered (d .session) which)
 deskStep d (Record.Quote e) = quoteTold (quoted d e)
+
+-- the desk after records, one after the other
+abbrev pub deskAfter : Desk → List Record → Desk
+deskAfter d [] = d
+deskAfter d (r ∷ rs) = deskAfter (deskStep d r .desk) rs
+
+-- a desk that records lead to from a fresh one
+pub record Reached (d : Desk) : Type 0 where
+  pub records : List Record
+  pub leads : deskAfter freshDesk records ≡ d
 
 -- the lines of records, one after the other, and the last ones
 unfoldable pub deskLinesFrom : Desk → ℕ → List Record → Bool → List ℕ

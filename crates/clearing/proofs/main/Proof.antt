@@ -3,6 +3,7 @@ use native.Mathlib.Omega.{arith}
 use borrow.Author.Needs.{needs}
 use mathlib.Core.Path.{sym}
 use lib.Seq.{length-take-le}
+use Rattle.desk_steps.specs.StepLaws.{reached-sound}
 use Rattle.clearing.specs.Within.{ends-within}
 use Rattle.clearing.proofs.main.Statement.{statement}
 use Rattle.clearing.proofs.main.Tie as tie
@@ -26,7 +27,7 @@ slice-aggregate-owed-lines : tie.Need-slice-aggregate-owed-lines
 slice-aggregate-owed-lines c = search needs
 
 owed-lines-requires : tie.Need-owed-lines-requires
-owed-lines-requires c κs = search needs
+owed-lines-requires c κs = (reached-sound _ (c .before .before .before .walk .ensures), omega arith)
 
 array-share-prefix-output : tie.Need-array-share-prefix-output
 array-share-prefix-output c =

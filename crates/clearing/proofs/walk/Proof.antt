@@ -6,10 +6,9 @@ use Rattle.transcript.specs.declared.{Stop.Stop, Next.Next}
 use Rattle.transcript.specs.Steps.{recordRoom}
 use Rattle.transcript.specs.Told.{nextTold, lastRoom, faults}
 use Rattle.terms.specs.Bounds.{tradeListLength}
-use Rattle.desk.specs.Sound.{SoundDesk}
-use Rattle.desk.specs.SoundAfter.{fresh-desk-sound}
 use Rattle.transcript.specs.TellLaws.{next-record, next-stop}
-use Rattle.desk_steps.specs.StepLaws.{desk-step-room, desk-step-sound}
+use Rattle.desk_steps.specs.Steps.{Reached}
+use Rattle.desk_steps.specs.StepLaws.{desk-step-room, reached-fresh, reached-next, reached-sound}
 use native.Mathlib.Omega.{arith}
 use borrow.Author.Needs.{needs}
 use Rattle.clearing.specs.Within.{ends-within}
@@ -18,7 +17,7 @@ use Rattle.clearing.proofs.walk.Tie as tie
 
 abbrev Inv-loop : tie.InvT-loop
 Inv-loop input₀ out₀ list₀ desk₀ from₀ to₀ ended₀ count₀ at₀ left₀ input out list desk from to ended count at left =
-    SoundDesk desk × (from ≤ to) × (to ≤ length input) × (length input ≡ length input₀) × (length out ≡ length out₀) × (at ≤ length out) × (count + left ≤ 1099511627776) × (length list ≡ tradeListLength)
+    Reached desk × (from ≤ to) × (to ≤ length input) × (length input ≡ length input₀) × (length out ≡ length out₀) × (at ≤ length out) × (count + left ≤ 1099511627776) × (length list ≡ tradeListLength)
 
 abbrev μ-loop : tie.MeasureT-loop
 μ-loop input₀ out₀ list₀ desk₀ from₀ to₀ ended₀ count₀ at₀ left₀ input out list desk from to ended count at left = left
@@ -60,7 +59,7 @@ fresh-requires : tie.Need-fresh-requires Inv-loop μ-loop
 fresh-requires c κs = search needs
 
 loop-holds : tie.Need-loop-holds Inv-loop μ-loop
-loop-holds c = (rw (c .fresh .ensures) fresh-desk-sound, omega arith, omega arith, refl, refl, omega arith, omega arith, refl)
+loop-holds c = (rw (c .fresh .ensures) reached-fresh, omega arith, omega arith, refl, refl, omega arith, omega arith, refl)
 
 sub-left : tie.Need-sub-left Inv-loop μ-loop
 sub-left c = search needs
@@ -89,7 +88,7 @@ slice-aggregate-carried-out c = sym (c .before .before .before .before .before .
 carried-out-requires : tie.Need-carried-out-requires Inv-loop μ-loop
 carried-out-requires c κs =
     let l = c .before .before .before .before .before .before .before .before in
-    (l .loop .inv .0, l .loop .inv .7, omega (arith, record-next (c .before .before .before) .1, l .loop .inv .5))
+    (reached-sound (l .loop .desk) (l .loop .inv .0), l .loop .inv .7, omega (arith, record-next (c .before .before .before) .1, l .loop .inv .5))
 
 loop-less : tie.Need-loop-less Inv-loop μ-loop
 loop-less c = search needs
@@ -100,7 +99,7 @@ loop-again c =
     let r = c .before .before .before .before .carried-out in
     let next = c .before .before .before .before .before .before .before .before in
     let asked = next .next .given .0 .0 in (
-      rw (r .ensures .0) (desk-step-sound (l .loop .desk) asked (l .loop .inv .0)),
+      rw (r .ensures .0) (reached-next (l .loop .desk) asked (l .loop .inv .0)),
       omega (arith, record-next next .0, held-long l),
       l .loop .inv .2,
       l .loop .inv .3,
