@@ -2,8 +2,8 @@
 // (02 K5).
 use desk::Desk;
 use desk_steps::carried_out;
-use feed::moved_to_front;
-use feed::read_some;
+use feed::Held;
+use feed::read_behind;
 use libc::STDERR_FILENO;
 use libc::STDOUT_FILENO;
 use owing::owed_lines;
@@ -12,20 +12,15 @@ use telling::last_lines;
 use transcript::Next;
 use transcript::Stop;
 use transcript::next_told;
+ghost use mathlib.Core.Path.{_≡_};
 ghost use Prim.Native.Nat.{_≤_};
 ghost use lib.ListN.{length};
+ghost use Rattle.records.specs.Lengths.{lengthBound};
 ghost use Rattle.transcript.specs.Steps.{recordRoom};
 ghost use Rattle.desk_steps.specs.Steps.{Reached};
 
 // A loop must end and nothing says that an input does: there are never more turns than bytes and reads.
 const MOST_TURNS: u64 = 1_099_511_627_776;
-
-// The bytes of the buffer that are not told yet, and whether more can come.
-pub struct Held {
-    pub from: usize,
-    pub to: usize,
-    pub ended: bool,
-}
 
 // What was gathered goes to standard output.
 fn print(text: &[u8]) {
@@ -38,33 +33,9 @@ fn print(text: &[u8]) {
     }
 }
 
-// The bytes held and one read behind them. Where they fill the buffer no record is cut, and nothing more is read.
-fn read_behind(input: &mut [u8], held: Held) -> Held
-    requires { ⌜ (held .from ≤ held .to) × (held .to ≤ length (now input)) ⌝ }
-    ensures { λ r. ⌜ (r .from ≤ r .to) × (r .to ≤ length (now (input .entry))) ⌝ }
-{
-    let kept = moved_to_front(input, held.from, held.to);
-    if kept == input.len() {
-        return Held {
-            from: 0,
-            to: kept,
-            ended: true,
-        };
-    }
-    let got = read_some(
-        &mut input[kept..],
-        b"clearing: standard input can't be read further; it is taken to end here\n",
-    );
-    Held {
-        from: 0,
-        to: kept + got,
-        ended: got == 0,
-    }
-}
-
 // The records one by one, to the input's end or to a fault; the desk then.
 fn walk(input: &mut [u8], out: &mut [u8]) -> Desk
-    requires { ⌜ recordRoom ≤ length (now out) ⌝ }
+    requires { ⌜ (length (now input) ≡ lengthBound) × (recordRoom ≤ length (now out)) ⌝ }
     ensures { λ r. ⌜ Reached r ⌝ }
 {
     let mut list = [0u32; Session::TRADE_LIST];
@@ -93,7 +64,12 @@ fn walk(input: &mut [u8], out: &mut [u8]) -> Desk
                     at = 0;
                 }
                 Stop::Waits => {
-                    let held = read_behind(input, Held { from, to, ended });
+                    // It holds fewer bytes than a record can have, so there is room for a read.
+                    let held = read_behind(
+                        input,
+                        Held { from, to, ended },
+                        b"clearing: standard input can't be read further; it is taken to end here\n",
+                    );
                     from = held.from;
                     to = held.to;
                     ended = held.ended;
@@ -112,6 +88,10 @@ fn walk(input: &mut [u8], out: &mut [u8]) -> Desk
         }
     }
     print(&out[..at]);
+    io::write_all(
+        STDERR_FILENO,
+        b"clearing: the run's turns are used up; what follows is not told\n",
+    );
     desk
 }
 

@@ -1,2 +1,3 @@
--- Bytes moved to the front.
+-- Bytes held in a buffer, moved to its front, and a read behind them.
+pub mod HeldBytes
 pub mod Moved

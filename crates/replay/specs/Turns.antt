@@ -5,9 +5,7 @@ use mathlib.Core.Logic.{_⊎_, inl, inr}
 use mathlib.Core.Path.{_≡_, refl, sym, subst, ap, _∙_}
 use mathlib.Core.List.{List, _++_}
 use native.Mathlib.Omega.{arith}
-use lib.Dec.{eqb}
-use lib.ListN.{length, take, drop, length-drop}
-use lib.Seq.{length-take-le, drop-at, take-add, take-append-add, take-append-le, drop-drop}
+use lib.ListN.{length, take, drop}
 use Rattle.session.specs.declared.{Session.Session}
 use Rattle.session.specs.Sound.{Sound}
 use Rattle.records.specs.Lengths.{lengthBound}
@@ -15,15 +13,9 @@ use Rattle.transcript.specs.declared.{Stop.Stop, Telling.Telling}
 use Rattle.transcript.specs.Told.{TellingLeaves, tellingLeaves, told}
 use Rattle.transcript.specs.TellLaws.{Returned, told-returned}
 use Rattle.transcript.specs.Fed.{isEnd, goFeed, fed, Stopped, told-stopped}
-use Rattle.replay.specs.declared.{Held.Held, Run.Run}
-
--- the bytes held lie in a buffer of this size
-abbrev pub Within : ℕ → Held → Type 0
-Within size held = (held .from ≤ held .to) × (held .to ≤ size)
-
--- .. and are these
-abbrev pub heldIn : Held → List ℕ → List ℕ
-heldIn held input = take (held .to - held .from) (drop (held .from) input)
+use Rattle.feed.specs.declared.{Held.Held}
+use Rattle.feed.specs.HeldBytes.{Within, heldIn, ReadBehind, held-length}
+use Rattle.replay.specs.declared.{Run.Run}
 
 abbrev pub waitsFor : Stop → Bool
 waitsFor Stop.Full = false
@@ -37,13 +29,6 @@ isOver Stop.Full = false
 isOver Stop.Waits = false
 isOver Stop.Fault = true
 isOver Stop.End = true
-
--- what was held, and a read behind it, in a buffer with room for one byte more at least; the input has ended where the read brought nothing
-pub record ReadBehind (size : ℕ) (before after : List ℕ) (ended : Bool) : Type 0 where
-  pub room : length before < size
-  pub read : List ℕ
-  pub behind : after ≡ before ++ read
-  pub ends : ended ≡ eqb (length read) 0
 
 -- the bytes for the next telling: one read more where the last one waits for it, and else the same
 abbrev pub Fetching : Bool → ℕ → List ℕ → Bool → List ℕ → Bool → Type 0
@@ -108,9 +93,6 @@ module _ (s : Session) (answered : ℕ) (bytes out : List ℕ) (ended : Bool) {r
   pub stopped-by : Stopped (length out) ended bytes r
   stopped-by = subst (λ (l : TellingLeaves). Stopped (length out) ended bytes (l .returned)) (sym e) (told-stopped s answered bytes ended out)
 
-pub held-length : (from to : ℕ) (input : List ℕ) → from ≤ to → to ≤ length input → length (take (to - from) (drop from input)) ≡ to - from
-held-length from to input h k = length-take-le (to - from) (drop from input) (omega (arith, length-drop from input))
-
 pub told-returns : (s : Session) (answered from to : ℕ) (input out : List ℕ) (ended : Bool) → Sound s → (from ≤ to) × (to ≤ length input) → {r : Telling} {out′ : List ℕ}
     → tellingLeaves r out′ ≡ told s answered (take (to - from) (drop from input)) ended out → Returns answered from to input out r
 told-returns s answered from to input out ended sound within {r} e = record {
@@ -129,32 +111,6 @@ told-returns s answered from to input out ended sound within {r} e = record {
 
     size : length (take (to - from) (drop from input)) ≡ to - from
     size = held-length from to input (within .0) (within .1)
-
--- the bytes behind a place of those held
-pub held-left : (input : List ℕ) (from to place : ℕ) → from + place ≤ to → to ≤ length input
-    → take (to - (from + place)) (drop (from + place) input) ≡ drop place (take (to - from) (drop from input))
-held-left input from to place h k =
-    sym
-    (ap (λ (n : ℕ). drop place (take n (drop from input))) split
-    ∙ ap (drop place) (take-add place (to - (from + place)) (drop from input))
-    ∙ drop-at (take place (drop from input)) (take (to - (from + place)) (drop place (drop from input))) place (length-take-le place (drop from input) (omega (arith, length-drop from input)))
-    ∙ ap (take (to - (from + place))) (drop-drop place from input))
-  where
-    split : to - from ≡ place + (to - (from + place))
-    split = omega arith
-
--- the bytes held moved to the front, and a read behind them
-pub read-behind : (size : ℕ) (before moved tail rest : List ℕ) (kept got : ℕ) → length before < size → take kept moved ≡ before → kept ≤ length moved → got ≤ length tail
-    → ReadBehind size before (heldIn (record { from = 0; to = kept + got; ended = eqb got 0 }) (take kept moved ++ (tail ++ rest))) (eqb got 0)
-read-behind size before moved tail rest kept got more same room few = record {
-  room = more;
-  read = take got tail;
-  behind = ap (λ (n : ℕ). take n (take kept moved ++ (tail ++ rest))) held ∙ take-append-add (take kept moved) (tail ++ rest) got ∙ ap (λ (l : List ℕ). take kept moved ++ l) (take-append-le got tail rest few) ∙ ap (λ (l : List ℕ). l ++ take got tail) same;
-  ends = ap (λ (n : ℕ). eqb n 0) (sym (length-take-le got tail few));
-}
-  where
-    held : kept + got - 0 ≡ length (take kept moved) + got
-    held = omega (arith, length-take-le kept moved room)
 
 -- A7: a turn prints and leaves what a turn of `fed` does, where the input has ended just when no read is to come.
 pub turn-is-fed : (run next : Run) (input out later-input later-out : List ℕ) (t : Turned run input out next later-input later-out) (reads : List (List ℕ)) → isEnd reads ≡ next .held .ended → (turns : ℕ)

@@ -13,8 +13,9 @@ use Rattle.transcript.specs.Transcript.{printed}
 use Rattle.transcript.specs.Steps.{recordRoom}
 use Rattle.transcript.specs.TellLaws.{Returned}
 use Rattle.transcript.specs.Fed.{isEnd, goFeed, fed, Stopped, fed-prints}
+use Rattle.feed.specs.HeldBytes.{heldIn}
 use Rattle.replay.specs.declared.{Run.Run}
-use Rattle.replay.specs.Turns.{heldIn, waitsFor, isOver, Fetching, Going, Turned, telling-waits, returned-by, stopped-by, turn-is-fed}
+use Rattle.replay.specs.Turns.{waitsFor, isOver, Fetching, Going, Turned, telling-waits, returned-by, stopped-by, turn-is-fed}
 
 -- nothing is held, and the first turn reads
 abbrev pub firstRun : Run

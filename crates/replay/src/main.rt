@@ -1,6 +1,6 @@
 // The session program: runs a session file from standard input and prints what happened (01 "Session file").
-use feed::moved_to_front;
-use feed::read_some;
+use feed::Held;
+use feed::read_behind;
 use libc::STDERR_FILENO;
 use libc::STDOUT_FILENO;
 use session::Session;
@@ -12,18 +12,12 @@ ghost use Prim.Native.Nat.{_+_, _-_, _≤_, _<_, _^_};
 ghost use lib.ListN.{length, take, drop};
 ghost use Rattle.records.specs.Lengths.{lengthBound};
 ghost use Rattle.transcript.specs.Steps.{recordRoom};
-ghost use Rattle.replay.specs.Turns.{Within, heldIn, waitsFor, isOver, ReadBehind, Fetched, RoomToRead, Going, Turned};
+ghost use Rattle.feed.specs.HeldBytes.{Within, heldIn};
+ghost use Rattle.replay.specs.Turns.{waitsFor, isOver, Fetched, RoomToRead, Going, Turned};
 ghost use Rattle.replay.specs.WholeRun.{firstRun, WholeRun};
 
 // A loop must end and nothing says that an input does. There are never more turns than bytes and reads (`turns-suffice`).
 const MOST_TURNS: u64 = 1_099_511_627_776;
-
-// The bytes of the buffer that are not told yet, and whether more can come.
-pub struct Held {
-    pub from: usize,
-    pub to: usize,
-    pub ended: bool,
-}
 
 // Where a run stands: its session, the records answered, the bytes held, and why the last telling stopped.
 pub struct Run {
@@ -59,30 +53,17 @@ fn say(line: &[u8]) {
     io::write_all(STDERR_FILENO, line);
 }
 
-// One read behind the bytes held. They are fewer than a record can have, so there is room for it.
-fn read_behind(input: &mut [u8], held: Held) -> Held
-    requires { ⌜ Within (length (now input)) held × (held .to - held .from < length (now input)) ⌝ }
-    ensures { λ r. ⌜ Within (length (now (input .entry))) r × ReadBehind (length (now (input .entry))) (heldIn held (now (input .entry))) (heldIn r (now (input .exit))) (r .ended) ⌝ }
-{
-    let kept = moved_to_front(input, held.from, held.to);
-    let got = read_some(
-        &mut input[kept..],
-        b"replay: standard input can't be read further; it is taken to end here\n",
-    );
-    Held {
-        from: 0,
-        to: kept + got,
-        ended: got == 0,
-    }
-}
-
-// The bytes for the next telling: one read more where the last one waits for it.
+// The bytes for the next telling: one read more where the last one waits for it. It holds fewer than a record can have, so there is room for a read.
 fn next_held(input: &mut [u8], held: Held, stop: Stop) -> Held
     requires { ⌜ Within (length (now input)) held × RoomToRead (length (now input)) held stop ⌝ }
     ensures { λ r. ⌜ Within (length (now (input .entry))) r × Fetched stop (length (now (input .entry))) (heldIn held (now (input .entry))) (held .ended) (heldIn r (now (input .exit))) (r .ended) ⌝ }
 {
     if waits(stop) {
-        return read_behind(input, held);
+        return read_behind(
+            input,
+            held,
+            b"replay: standard input can't be read further; it is taken to end here\n",
+        );
     }
     held
 }

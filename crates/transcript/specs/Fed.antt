@@ -225,7 +225,8 @@ not-waits (Read.Record r next) e = let z : _≡_ {A = ℕ} 0 1 = cc in omega ari
 not-waits Read.Fault e = let z : _≡_ {A = ℕ} 0 1 = cc in omega arith
 not-waits Read.End e = let z : _≡_ {A = ℕ} 0 1 = cc in omega arith
 
-next-short : (bytes : List ℕ) (place : ℕ) (ended : Bool) (room : ℕ) → nextTold bytes place ended room ≡ Next.Stop Stop.Waits → length bytes < place + lengthBound
+-- a telling waits with fewer bytes than a record can have
+pub next-short : (bytes : List ℕ) (place : ℕ) (ended : Bool) (room : ℕ) → nextTold bytes place ended room ≡ Next.Stop Stop.Waits → length bytes < place + lengthBound
 next-short bytes place ended room e = go (ltb room recordRoom) (needsMore bytes place) ended refl e where
   go : (full more e : Bool) → needsMore bytes place ≡ more
       → cond full (Next.Stop Stop.Full) (cond (not e && more) (Next.Stop Stop.Waits) (nextOf (recordAt bytes place))) ≡ Next.Stop Stop.Waits → length bytes < place + lengthBound

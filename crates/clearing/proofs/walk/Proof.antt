@@ -1,5 +1,5 @@
 use Prim.Native.Nat.{_+_, _-_, _≤_, _<_, _^_}
-use mathlib.Core.Path.{_≡_, refl, sym, _∙_}
+use mathlib.Core.Path.{_≡_, refl, sym, ap, _∙_}
 use lib.ListN.{length, take}
 use lib.Seq.{length-take-le}
 use Rattle.transcript.specs.declared.{Stop.Stop, Next.Next}
@@ -7,6 +7,7 @@ use Rattle.transcript.specs.Steps.{recordRoom}
 use Rattle.transcript.specs.Told.{nextTold, lastRoom, faults}
 use Rattle.terms.specs.Bounds.{tradeListLength}
 use Rattle.transcript.specs.TellLaws.{next-record, next-stop}
+use Rattle.transcript.specs.Fed.{next-short}
 use Rattle.desk_steps.specs.Steps.{Reached}
 use Rattle.desk_steps.specs.StepLaws.{desk-step-room, reached-fresh, reached-next, reached-sound}
 use native.Mathlib.Omega.{arith}
@@ -16,11 +17,11 @@ use Rattle.clearing.proofs.walk.Statement.{statement}
 use Rattle.clearing.proofs.walk.Tie as tie
 
 abbrev Inv-loop : tie.InvT-loop
-Inv-loop input₀ out₀ list₀ desk₀ from₀ to₀ ended₀ count₀ at₀ left₀ input out list desk from to ended count at left =
+Inv-loop input₀ out₀ list₀ desk₀ from₀ to₀ ended₀ count₀ at₀ left₀ trouble used input out list desk from to ended count at left =
     Reached desk × (from ≤ to) × (to ≤ length input) × (length input ≡ length input₀) × (length out ≡ length out₀) × (at ≤ length out) × (count + left ≤ 1099511627776) × (length list ≡ tradeListLength)
 
 abbrev μ-loop : tie.MeasureT-loop
-μ-loop input₀ out₀ list₀ desk₀ from₀ to₀ ended₀ count₀ at₀ left₀ input out list desk from to ended count at left = left
+μ-loop input₀ out₀ list₀ desk₀ from₀ to₀ ended₀ count₀ at₀ left₀ trouble used input out list desk from to ended count at left = left
 
 -- the bytes held are as long as they say
 held-long : (l : tie.At-loop Inv-loop μ-loop) → length (take (l .loop .to) (l .loop .input)) ≡ l .loop .to
@@ -42,6 +43,13 @@ stop-room : (c : tie.After-next2 Inv-loop μ-loop) → let l = c .before .before
 stop-room c =
     let l = c .before .before .before .before .before in
     next-stop (take (l .loop .to) (l .loop .input)) (l .loop .from) (l .loop .ended) (length (l .loop .out) - l .loop .at) (sym (c .before .before .next-told .ensures) ∙ c .next2 .given .1) (omega (arith, held-long l, l .loop .inv .1)) .1
+
+-- where it waits there is room for a read
+room-to-read : (c : tie.After-next2 Inv-loop μ-loop) → c .next2 .given .0 .0 ≡ Stop.Waits → let l = c .before .before .before .before .before in l .loop .to - l .loop .from < length (l .loop .input)
+room-to-read c e =
+    let l = c .before .before .before .before .before in
+    let s = l .before .before .before .before in
+    omega (arith, l .loop .inv .1, l .loop .inv .3, s .pre .0, held-long l, next-short (take (l .loop .to) (l .loop .input)) (l .loop .from) (l .loop .ended) (length (l .loop .out) - l .loop .at) (sym (c .before .before .next-told .ensures) ∙ c .next2 .given .1 ∙ ap Next.Stop e))
 
 few-faults : (stop : Stop) → faults stop ≤ 1
 few-faults Stop.Full = omega arith
@@ -135,17 +143,23 @@ loop-again-2 c =
 enum-told-2 : tie.Need-enum-told-2 Inv-loop μ-loop
 enum-told-2 c = search needs
 
+slice-aggregate-read-behind : tie.Need-slice-aggregate-read-behind Inv-loop μ-loop
+slice-aggregate-read-behind c = search needs
+
 read-behind-requires : tie.Need-read-behind-requires Inv-loop μ-loop
-read-behind-requires c κs = search needs
+read-behind-requires c κs =
+    let next = c .before .before .before .before .before in
+    let l = next .before .before .before .before .before in
+    ((l .loop .inv .1, l .loop .inv .2), room-to-read next (c .before .before .enum-told2 .given .1))
 
 loop-less-3 : tie.Need-loop-less-3 Inv-loop μ-loop
 loop-less-3 c = search needs
 
 loop-again-3 : tie.Need-loop-again-3 Inv-loop μ-loop
 loop-again-3 c =
-    let l = c .before .before .before .before .before .before .before .before .before .before .before .before in
+    let l = c .before .before .before .before .before .before .before .before .before .before .before .before .before in
     let r = c .before .before .read-behind in
-    (l .loop .inv .0, r .ensures .0, omega (arith, r .ensures .1, r .kept .0), r .kept .0 ∙ l .loop .inv .3, l .loop .inv .4, l .loop .inv .5, omega (arith, l .loop .inv .6, c .before .before .before .before .before .before .before .before .before .before .before .loop-test .taken), l .loop .inv .7)
+    (l .loop .inv .0, r .ensures .0 .0, omega (arith, r .ensures .0 .1, r .kept .0), r .kept .0 ∙ l .loop .inv .3, l .loop .inv .4, l .loop .inv .5, omega (arith, l .loop .inv .6, c .before .before .before .before .before .before .before .before .before .before .before .before .loop-test .taken), l .loop .inv .7)
 
 enum-told-3 : tie.Need-enum-told-3 Inv-loop μ-loop
 enum-told-3 c = search needs
@@ -210,6 +224,12 @@ slice-aggregate-print-4 c = let l = c .before .before in sym (length-take-le (l 
 print-requires-4 : tie.Need-print-requires-4 Inv-loop μ-loop
 print-requires-4 c κs = search needs
 
+slice-aggregate-write-all : tie.Need-slice-aggregate-write-all Inv-loop μ-loop
+slice-aggregate-write-all c = search needs
+
+write-all-requires : tie.Need-write-all-requires Inv-loop μ-loop
+write-all-requires c κs = search needs
+
 same-length-5 : tie.Need-same-length-5 Inv-loop μ-loop
 same-length-5 c = search needs
 
@@ -246,6 +266,7 @@ walk-spec =
     loop-less-2
     loop-again-2
     enum-told-2
+    slice-aggregate-read-behind
     read-behind-requires
     loop-less-3
     loop-again-3
@@ -268,6 +289,8 @@ walk-spec =
     slice-reshare-prefix-print-4
     slice-aggregate-print-4
     print-requires-4
+    slice-aggregate-write-all
+    write-all-requires
     same-length-5
     same-length-6
     returns-3)

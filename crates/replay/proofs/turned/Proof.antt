@@ -3,7 +3,8 @@ use Prim.Native.Nat.{_≤_}
 use mathlib.Core.Path.{refl, sym}
 use lib.ListN.{length}
 use lib.Seq.{length-take-le}
-use Rattle.replay.specs.Turns.{heldIn, Returns, telling-waits, told-returns, held-left}
+use Rattle.feed.specs.HeldBytes.{heldIn, held-left}
+use Rattle.replay.specs.Turns.{Returns, telling-waits, told-returns}
 use native.Mathlib.Omega.{arith}
 use borrow.Author.Needs.{needs}
 use Rattle.replay.proofs.turned.Statement.{statement}
