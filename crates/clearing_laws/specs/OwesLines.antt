@@ -1,12 +1,10 @@
 -- Who owes whom, in lines: what is printed behind the session's own is worked out from the list of all trades so far (02 K5).
 use Prim.Native.Nat.{ℕ, _≤_, _<_}
-use mathlib.Core.Logic.{inl, inr, ⊎-elim}
+use mathlib.Core.Logic.{inl, inr}
 use mathlib.Core.Path.{_≡_, refl, sym, ap, subst, _∙_}
 use mathlib.Core.List.{List, [], _∷_, _++_, map}
 use native.Mathlib.Omega.{arith}
-use lib.Dec.{leb}
-use lib.ListN.{length, getD, take}
-use Rattle.lists.specs.Tests.{tests, decided}
+use lib.ListN.{getD}
 use Rattle.text.specs.Text.{texts}
 use Rattle.squares.specs.Square.{squareMembers, squareOf}
 use Rattle.desk.specs.declared.{Desk.Desk}
@@ -15,7 +13,7 @@ use Rattle.desk.specs.Sound.{SoundDesk}
 use Rattle.records.specs.declared.{kinds.Record.Record}
 use Rattle.transcript.specs.Transcript.{lent}
 use Rattle.desk_steps.specs.Steps.{deskStep, deskAfter, Reached}
-use Rattle.owing.specs.Owing.{owesLine, firstTexts, rowLines, rowsLines, totalLine, owedLines}
+use Rattle.owing.specs.Owing.{owesLine, firstTexts, rowLines, squareLines, totalLine, owedLines}
 use Rattle.owing.specs.Texts.{first-same, first-stops, first-of}
 use Rattle.demands.specs.Sequences.{Act, Call}
 use Rattle.clearing_laws.specs.Runs.{after, run, Deal, dealsSoFar, owed, memberAt, cellAt, tradedSoFar}
@@ -51,7 +49,7 @@ module _ (d : Desk) (sound : SoundDesk d) (deals : List Deal) (o : Owes d deals)
       first-stops (cellLine i) 0 squareMembers (omega arith)
       (λ j a c. silent (memberAt d i) (memberAt d j) (cellAt d i j) (o .of-no-two i j b c (inl h)))
 
-  rows-owed : rowsLines (d .members) (squareOf (d .totals)) ≡ owedAmong (known d) deals
+  rows-owed : squareLines (d .members) (squareOf (d .totals)) ≡ owedAmong (known d) deals
   rows-owed =
       first-stops (λ i. rowLines (d .members) (memberAt d i) (getD (squareOf (d .totals)) i [])) (d .count) squareMembers (sound .few) row-silent
       ∙ first-same (λ i. rowLines (d .members) (memberAt d i) (getD (squareOf (d .totals)) i [])) (λ i. boughtBy (known d) deals (memberAt d i)) (d .count) row-owed

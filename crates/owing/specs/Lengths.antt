@@ -1,11 +1,12 @@
 -- How long the lines of who owes whom can be: a member has five digits, a cell as many as a number of 64 bits.
-use Prim.Native.Nat.{ℕ, _+_, _*_, _<_, _≤_}
+use Prim.Native.Nat.{ℕ, _+_, _*_, _≤_}
 use mathlib.Core.Bool.{Bool, true, false, cond}
 use mathlib.Core.Path.{_≡_}
 use mathlib.Core.List.{List, [], _∷_, _++_}
 use native.Mathlib.Omega.{arith}
 use lib.Dec.{eqb}
 use lib.ListN.{length, length-append}
+use Rattle.terms.specs.Bounds.{maxMember}
 use Rattle.text.specs.Text.{numeral, numeralRoom, newline}
 use Rattle.text.specs.Decimal.{decimal-length, decimal-short}
 use Rattle.lines.specs.Line.{numbers}
@@ -26,14 +27,14 @@ abbrev pub owesRoom : ℕ
 owesRoom = length owesWord + numbersRoom 3
 
 -- room that suffices for all of them: every cell's, and the total's
-abbrev pub owedRoom : ℕ
-owedRoom = squareCells * owesMost + owesRoom
+abbrev pub squareRoom : ℕ
+squareRoom = squareCells * owesMost + owesRoom
 
 three : (a b c : List ℕ) → length (a ++ (b ++ (c ++ [])) ++ (newline ∷ [])) ≡ length a + length b + length c + 1
 three a b c =
     omega (arith, length-append (a ++ (b ++ (c ++ []))) (newline ∷ []), length-append a (b ++ (c ++ [])), length-append b (c ++ []), length-append c [])
 
-pub owes-short : (buyer seller quantity : ℕ) → buyer < 65_536 → seller < 65_536 → length (owesLine buyer seller quantity) ≤ owesMost
+pub owes-short : (buyer seller quantity : ℕ) → buyer ≤ maxMember → seller ≤ maxMember → length (owesLine buyer seller quantity) ≤ owesMost
 owes-short buyer seller quantity b s = go (eqb quantity 0)
   where
     go : (t : Bool) → length (cond t [] (owesWord ++ numbers (buyer ∷ seller ∷ quantity ∷ []))) ≤ owesMost

@@ -1,5 +1,5 @@
 -- Lines written one after another: a cell's, by columns, by rows.
-use Prim.Native.Nat.{ℕ, _+_, _*_, _<_, _≤_}
+use Prim.Native.Nat.{ℕ, _+_, _*_, _≤_}
 use mathlib.Core.Logic.{_≢_}
 use mathlib.Core.Path.{_≡_, refl, subst, _∙_}
 use mathlib.Core.List.{List, [], _∷_, _++_, append-assoc}
@@ -9,10 +9,11 @@ use native.Mathlib.Omega.{arith}
 use borrow.Author.Tests.{ne-eqb}
 use lib.ListN.{length}
 use Rattle.lists.specs.Put.{Wrote, put-nothing, put-then}
+use Rattle.terms.specs.Bounds.{maxMember}
 use Rattle.lines.specs.Line.{numbers}
 use Rattle.squares.specs.Square.{squareOf, total}
 use Rattle.desk.specs.declared.{Desk.Desk}
-use Rattle.owing.specs.Owing.{owesWord, totalWord, owesLine, firstTexts, rowsLines, owedLines}
+use Rattle.owing.specs.Owing.{owesWord, totalWord, owesLine, firstTexts, squareLines, owedLines}
 use Rattle.owing.specs.Lengths.{owesMost, owes-short}
 
 -- a text that is no longer than a bound says
@@ -24,7 +25,7 @@ module _ (old : List ℕ) (at buyer seller quantity : ℕ) (room : at ≤ length
   pub cell-silent : quantity ≡ 0 → WroteWithin owesMost old old at at (owesLine buyer seller quantity)
   cell-silent e = rw e ((omega arith, put-nothing old at room), omega arith)
 
-  pub cell-told : quantity ≢ 0 → buyer < 65_536 → seller < 65_536 → {one new : List ℕ} {p r : ℕ} → Wrote old one at p owesWord → Wrote one new p r (numbers (buyer ∷ seller ∷ quantity ∷ []))
+  pub cell-told : quantity ≢ 0 → buyer ≤ maxMember → seller ≤ maxMember → {one new : List ℕ} {p r : ℕ} → Wrote old one at p owesWord → Wrote one new p r (numbers (buyer ∷ seller ∷ quantity ∷ []))
       → WroteWithin owesMost old new at r (owesLine buyer seller quantity)
   cell-told h b s {one} {new} {p} {r} first second =
       let line : Wrote old new at r (owesLine buyer seller quantity) = rw (ne-eqb quantity 0 h) (put-then old one new at p r owesWord (numbers (buyer ∷ seller ∷ quantity ∷ [])) room first second) in
@@ -46,9 +47,9 @@ module _ (f : ℕ → List ℕ) (most : ℕ) (old : List ℕ) (at : ℕ) (room :
 
 -- the rows, and the total behind them
 pub owed-told : (d : Desk) (owed : List (List ℕ)) (sum : ℕ) (old one two new : List ℕ) (at end p r : ℕ) → at ≤ length old → owed ≡ squareOf (d .totals) → sum ≡ total (d .totals)
-    → Wrote old one at end (rowsLines (d .members) owed) → Wrote one two end p totalWord → Wrote two new p r (numbers (sum ∷ [])) → Wrote old new at r (owedLines d)
+    → Wrote old one at end (squareLines (d .members) owed) → Wrote one two end p totalWord → Wrote two new p r (numbers (sum ∷ [])) → Wrote old new at r (owedLines d)
 unfolding owedLines
 owed-told d owed sum old one two new at end p r room e f rows word behind =
     rw (← e, ← f)
-    (subst (λ (t : List ℕ). Wrote old new at r t) (append-assoc (rowsLines (d .members) owed) totalWord (numbers (sum ∷ [])))
-    (put-then old two new at p r (rowsLines (d .members) owed ++ totalWord) (numbers (sum ∷ [])) room (put-then old one two at end p (rowsLines (d .members) owed) totalWord room rows word) behind))
+    (subst (λ (t : List ℕ). Wrote old new at r t) (append-assoc (squareLines (d .members) owed) totalWord (numbers (sum ∷ [])))
+    (put-then old two new at p r (squareLines (d .members) owed ++ totalWord) (numbers (sum ∷ [])) room (put-then old one two at end p (squareLines (d .members) owed) totalWord room rows word) behind))

@@ -30,11 +30,11 @@ abbrev pub rowLines : List ℕ → ℕ → List ℕ → List ℕ
 rowLines members buyer cells = firstTexts (λ j. owesLine buyer (getD members j 0) (getD cells j 0)) squareMembers
 
 -- .. of all rows, and all cells together
-abbrev pub rowsLines : List ℕ → List (List ℕ) → List ℕ
-rowsLines members square = firstTexts (λ i. rowLines members (getD members i 0) (getD square i [])) squareMembers
+abbrev pub squareLines : List ℕ → List (List ℕ) → List ℕ
+squareLines members square = firstTexts (λ i. rowLines members (getD members i 0) (getD square i [])) squareMembers
 
 abbrev pub totalLine : ℕ → List ℕ
 totalLine n = totalWord ++ numbers (n ∷ [])
 
 unfoldable pub owedLines : Desk → List ℕ
-owedLines d = rowsLines (d .members) (squareOf (d .totals)) ++ totalLine (total (d .totals))
+owedLines d = squareLines (d .members) (squareOf (d .totals)) ++ totalLine (total (d .totals))

@@ -10,8 +10,8 @@ ghost use lib.ListN.{length};
 ghost use Rattle.lists.specs.Put.{Wrote};
 ghost use Rattle.squares.specs.Square.{squareMembers, squareCells};
 ghost use Rattle.desk.specs.Sound.{SoundDesk};
-ghost use Rattle.owing.specs.Owing.{owesLine, rowLines, rowsLines, owedLines};
-ghost use Rattle.owing.specs.Lengths.{owesMost, owesRoom, owedRoom};
+ghost use Rattle.owing.specs.Owing.{owesLine, rowLines, squareLines, owedLines};
+ghost use Rattle.owing.specs.Lengths.{owesMost, owesRoom, squareRoom};
 ghost use Rattle.owing.specs.OneByOne.{WroteWithin};
 
 // The line of a cell, where it is not 0.
@@ -48,14 +48,14 @@ fn put_row<'a>(
 }
 
 // The lines of all rows.
-fn put_rows(
+fn put_square(
     out: &mut [u8],
     at: usize,
     members: [u16; MEMBERS],
     owed: [[u64; MEMBERS]; MEMBERS],
 ) -> usize
-    requires { ⌜ at + owedRoom ≤ length (now out) ⌝ }
-    ensures { λ r. ⌜ WroteWithin (squareCells * owesMost) (now (out .entry)) (now (out .exit)) at r (rowsLines members owed) ⌝ }
+    requires { ⌜ at + squareRoom ≤ length (now out) ⌝ }
+    ensures { λ r. ⌜ WroteWithin (squareCells * owesMost) (now (out .entry)) (now (out .exit)) at r (squareLines members owed) ⌝ }
 {
     let mut end = at;
     let mut row: usize = 0;
@@ -70,13 +70,13 @@ fn put_rows(
 
 // All lines behind the session's own.
 pub fn owed_lines(out: &mut [u8], at: usize, desk: Desk) -> usize
-    requires { ⌜ SoundDesk desk × (at + owedRoom ≤ length (now out)) ⌝ }
+    requires { ⌜ SoundDesk desk × (at + squareRoom ≤ length (now out)) ⌝ }
     ensures { λ r. ⌜ Wrote (now (out .entry)) (now (out .exit)) at r (owedLines desk) ⌝ }
 {
     let owed = square(desk);
     let members = desk.members;
     let numbers = [total_of(&desk.totals)];
-    let end = put_rows(out, at, members, owed);
+    let end = put_square(out, at, members, owed);
     let p = put_bytes(out, end, b"total");
     put_numbers(out, p, &numbers)
 }

@@ -14,8 +14,8 @@ total-of-requires c κs =
     let s = c .before .before .before .before .before in
     (s .pre .0 .totals-long, omega (arith, s .pre .0 .within, far-below (s .args .t3 .session .phase)))
 
-put-rows-requires : tie.Need-put-rows-requires
-put-rows-requires c κs = search needs
+put-square-requires : tie.Need-put-square-requires
+put-square-requires c κs = search needs
 
 slice-aggregate-put-bytes : tie.Need-slice-aggregate-put-bytes
 slice-aggregate-put-bytes c = search needs
@@ -40,7 +40,7 @@ returns c =
     let sum = rows .before .before in
     let square = sum .before .before .before .before in
     let s = square .before .before in
-    owed-told (s .args .t3) _ _ (s .args .out .now) _ _ _ (s .args .at) _ _ _ (omega (arith, s .pre .1)) (square .square .ensures) (sum .total-of .ensures) (rows .put-rows .ensures .0) (word .put-bytes .ensures) (told .put-numbers .ensures)
+    owed-told (s .args .t3) _ _ (s .args .out .now) _ _ _ (s .args .at) _ _ _ (omega (arith, s .pre .1)) (square .square .ensures) (sum .total-of .ensures) (rows .put-square .ensures .0) (word .put-bytes .ensures) (told .put-numbers .ensures)
 
 pub owed-lines-spec : {M : Type 1} → statement M
 owed-lines-spec =
@@ -48,7 +48,7 @@ owed-lines-spec =
     (tie.spec
     square-requires
     total-of-requires
-    put-rows-requires
+    put-square-requires
     slice-aggregate-put-bytes
     put-bytes-requires
     slice-aggregate-put-numbers

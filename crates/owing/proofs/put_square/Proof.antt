@@ -9,8 +9,8 @@ use Rattle.squares.specs.Square.{squareMembers}
 use Rattle.owing.specs.Owing.{rowLines}
 use Rattle.owing.specs.Lengths.{owesMost}
 use Rattle.owing.specs.OneByOne.{WroteFirst, first-none, first-next}
-use Rattle.owing.proofs.put_rows.Statement.{statement}
-use Rattle.owing.proofs.put_rows.Tie as tie
+use Rattle.owing.proofs.put_square.Statement.{statement}
+use Rattle.owing.proofs.put_square.Tie as tie
 
 abbrev Inv-loop : tie.InvT-loop
 Inv-loop out₀ at members owed end₀ row₀ out end row =
@@ -65,8 +65,8 @@ returns c =
     let e : l .row ≡ 32 = omega arith in
     rw e at (l .inv .1 .1)
 
-pub put-rows-spec : {M : Type 1} → statement M
-put-rows-spec =
+pub put-square-spec : {M : Type 1} → statement M
+put-square-spec =
     tie.close
     (tie.spec
     Inv-loop
