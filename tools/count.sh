@@ -21,6 +21,10 @@ if [ -z "$emulator" ]; then
     [ -z "$erms" ] || fail "no qemu-x86_64, in the kit or on the PATH: nothing here can be told $erms"
     [ "$machine" = x86_64 ] || fail "no qemu-x86_64, in the kit or on the PATH: nothing here runs an x86-64 program"
     command -v valgrind >/dev/null || fail "neither qemu-x86_64 nor valgrind is on the PATH: nothing here counts instructions"
+    if command -v objdump >/dev/null && command -v python3 >/dev/null; then
+        echo "count: by valgrind, for want of qemu-x86_64: with the machine's C library, and turns of string moves for their bytes" >&2
+        exec python3 "$(dirname "$0")/turns.py" "$program" "$in"
+    fi
     echo "count: by valgrind, for want of qemu-x86_64: each turn of a string move counts, and its bytes are not told apart" >&2
     n=$(valgrind --tool=callgrind --callgrind-out-file=/dev/null "$program" <"$in" 2>&1 >/dev/null | sed -n 's/.*Collected : *//p')
     [ -n "$n" ] || fail "valgrind counted nothing"

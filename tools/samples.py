@@ -23,6 +23,12 @@ def start(step=100, reference=100_000, factor=9, threshold=150, maximum=10**12):
     return record(1, struct.pack("<IIHHQ", step, reference, factor, threshold, maximum))
 
 
+def band_start(rows, reference=100_000, factor=9, threshold=150, maximum=10**12):
+    """K6: rows of lowest price and step instead of the one step."""
+    table = b"".join(struct.pack("<II", *row) for row in rows)
+    return record(6, struct.pack("<H", len(rows)) + table + struct.pack("<IHHQ", reference, factor, threshold, maximum))
+
+
 def order(side, quantity, limit, validity=DAY, member=7):
     return record(2, struct.pack("<HBBII", member, side, validity, quantity, limit))
 
@@ -744,6 +750,126 @@ def tie_4_in_force():
     return [start(), buy(10, 101_400), sell(10, 101_400), OPENING, buy(40, 101_200), sell(40, 100_300), CLOSING]
 
 
+# Price steps by band (K6): a row is (lowest price, step)
+
+# The steps divide each other at the first two edges only. 200,100 is no multiple of its own row's step, and 300,030 none of the step below it.
+BANDS = [(1, 50), (100_000, 100), (200_100, 200), (300_030, 30)]
+# The most rows, some of them one price wide; no price of the first row is a multiple of its step.
+EIGHT = [(1, 1_000_000), (101, 101), (102, 2), (103, 1), (105, 5), (1_000, 10), (1_000_000, 300_000), (100_000_000, 1_000_000)]
+
+
+def rising(count):
+    """Rows that are good but for their count."""
+    return [(low, 1) for low in range(1, count + 1)]
+
+
+@sample
+def bands():
+    """Rows (1, 30), (100,000, 70), (110,000, 200): from 99,990 in the first row the opening moves the reference price to 100,030 in the second, off the
+    first one's step, and unlimited orders close at it; 100,050 and 110,180, on the step of the row below theirs, are refused by 5."""
+    return [
+        band_start([(1, 30), (100_000, 70), (110_000, 200)], reference=99_990),
+        buy(30, 100_030), sell(30, 100_030), sell(20, 100_050), sell(20, 110_180), sell(20, 110_200), quote((20, 99_960), (20, 100_100)), OPENING,
+        buy(40), sell(40), CLOSING,
+    ]
+
+
+@sample
+def bands_eight_rows():
+    """Eight rows, the last for the highest price alone, with the reference price 100,110 and the factor 999: limits at their edges, inside the collar."""
+    limits = [100, 101, 102, 103, 104, 105, 106, 999, 1_000, 1_005, 999_990, 1_000_000, 1_200_000, 99_900_000, 99_999_999, 100_000_000]
+    return [band_start(EIGHT, reference=100_110, factor=999), *(buy(1, limit) for limit in limits)]
+
+
+# For a session with the step 100 throughout
+ONE_STEP = [
+    buy(50, 100_200), buy(10, 100_050), GOOD, quote(BID, (10, 100_150)), start(step=50), band_start([(1, 50)]), buy(10, 100_050),
+    sell(80, 100_200), sell(10, 900_000), OPENING, buy(40), CLOSING,
+]
+
+
+@sample
+def bands_one_row():
+    """A session by kind 6 with the one row (1, 100); starts of either kind behind it are refused by 3."""
+    return [band_start([(1, 100)]), *ONE_STEP]
+
+
+@sample
+def bands_kind_1():
+    """The same by kind 1 with the step 100, which means that one row: it prints the same lines."""
+    return [start(), *ONE_STEP]
+
+
+@sample
+def refusal_1_bands():
+    """Refusal 1: tables that begin at 2 or at 0, with lowest prices that don't rise or are none, with a step out of its range, in the eighth row too; counts
+    of 0, 9 and 257 in records of that length; then a good start."""
+    seven = EIGHT[:-1]
+    return [
+        band_start([(2, 100)]), band_start([(0, 100)]),
+        # lowest prices: equal, falling, the first one's again, 0, above the highest price
+        band_start([(1, 100), (50_000, 50), (50_000, 100)]), band_start([(1, 100), (60_000, 50), (50_000, 100)]),
+        band_start([(1, 50), (1, 100)]), band_start([(1, 100), (0, 100)]), band_start([(1, 100), (100_000_001, 100)]),
+        band_start(seven + [(1_000_000, 100)]), band_start(seven + [(999_999, 100)]), band_start(seven + [(100_000_001, 100)]),
+        # steps: the reference price is in a good row
+        band_start([(1, 0), (50_000, 100)]), band_start([(1, 1_000_001), (50_000, 100)]),
+        band_start([(1, 100), (200_000, 0)]), band_start([(1, 100), (200_000, 1_000_001)]),
+        band_start(seven + [(100_000_000, 0)]), band_start(seven + [(100_000_000, 1_000_001)]),
+        # a count has two bytes: the low one of 257 is 1
+        band_start([]), band_start(rising(9)), band_start(rising(257)),
+        band_start(EIGHT),
+    ]
+
+
+@sample
+def refusal_1_bands_fields():
+    """Refusal 1, rows (1, 100) and (100,000, 30): a reference price on the other row's step alone, 100,000 too, which belongs to the row that begins there;
+    each other field below its range and above it; then a good start with 100,020."""
+    rows = [(1, 100), (100_000, 30)]
+
+    def by(reference=100_020, **other):
+        return band_start(rows, reference, **other)
+    return [
+        by(reference=100_100), by(reference=99_990), by(reference=100_000),
+        by(reference=0), by(reference=100_000_020),
+        by(factor=1), by(factor=1_000),
+        by(threshold=0), by(threshold=10_000),
+        by(maximum=0), by(maximum=10**15 + 1),
+        by(),
+    ]
+
+
+@sample
+def refusal_3_bands():
+    """Refusal 3: a start of either kind on a session started by kind 6, in each of its phases, and 1 before it; the first table stays in force."""
+    again = [start(step=50), band_start([(1, 50)]), band_start([(2, 50)]), buy(10, 100_050), buy(10, 99_950)]
+    return [band_start(BANDS), *again, OPENING, *again, CLOSING, *again[:3]]
+
+
+@sample
+def refusal_5_bands():
+    """Refusal 5 by the row, rows (1, 50), (100,000, 100), (200,100, 200), (300,030, 30): limits at each edge, below it and above it, and on the step of the
+    row on its other side; a row's lowest price belongs to it; an unlimited order to none; 5 goes before 6."""
+    return [
+        band_start(BANDS),
+        *(buy(10, limit) for limit in (99_950, 99_999, 100_000, 100_001, 100_050, 100_100)),
+        *(sell(10, limit) for limit in (200_000, 200_099, 200_100, 200_101, 200_200)),
+        *(sell(10, limit) for limit in (299_800, 299_970, 300_029, 300_030, 300_031, 300_200)),
+        buy(10), sell(10, 899_970), sell(10, 900_010), sell(10, 900_000),
+    ]
+
+
+@sample
+def refusal_5_bands_quote():
+    """Refusal 5 by the row of each side, with the same rows: bids and asks on both sides of each edge; the last one accepted stays, and can be deleted."""
+    each = [
+        (99_950, 100_000), (99_950, 100_050), (99_999, 100_000), (100_050, 100_100),
+        (100_000, 200_000), (200_000, 200_100), (200_100, 200_200), (200_000, 200_200),
+        (299_970, 300_030), (299_800, 300_029), (299_800, 300_031), (299_800, 300_030), (300_030, 300_200),
+    ]
+    return [band_start(BANDS), *(quote((10, bid), (10, ask)) for bid, ask in each), delete(7), delete(8)]
+
+
 # Files that are empty, cut or faulty
 
 @sample
@@ -854,6 +980,100 @@ def cut_quote():
     return [start(), GOOD, GOOD[:-1]]
 
 
+# Two rows: 38 bytes, the count behind the first 4 and the rows behind that
+TWO = band_start([(1, 50), (100_000, 100)])
+
+
+@sample
+def too_short_bands():
+    """A start by kind 6 that counts two rows and says 37 bytes, one fewer than they have, and has them."""
+    return [struct.pack("<HH", 37, 6) + TWO[4:-1], start()]
+
+
+@sample
+def too_long_bands():
+    """A start by kind 6 that counts two rows and says 46 bytes, what three rows have, and has them."""
+    return [struct.pack("<HH", 46, 6) + TWO[4:] + bytes(8), start()]
+
+
+@sample
+def bands_count_9():
+    """A start by kind 6 that counts nine rows and says 38 bytes, what two have: it ends the walk, where one of nine rows' length is answered 1."""
+    return [band_start(rising(9)), struct.pack("<HHH", 38, 6, 9) + TWO[6:], start()]
+
+
+@sample
+def bands_count_65535():
+    """A start by kind 6 that counts 65,535 rows, more than any length fits, and says 14 bytes, what 22 + 8 × 65,535 leaves in two bytes."""
+    return [struct.pack("<HHH", 14, 6, 65_535) + TWO[-8:], start()]
+
+
+@sample
+def bands_count_8190():
+    """A start by kind 6 that counts 8,190 rows, one more than any length fits, and says 6 bytes, what 22 + 8 × 8,190 leaves in two bytes."""
+    return [struct.pack("<HHH", 6, 6, 8_190), start()]
+
+
+@sample
+def bands_length_4():
+    """A start by kind 6 that says 4 bytes: too short to hold its count."""
+    return [struct.pack("<HH", 4, 6), start()]
+
+
+@sample
+def bands_length_5():
+    """A start by kind 6 that says 5 bytes, and has them: half of its count."""
+    return [struct.pack("<HHB", 5, 6, 1), start()]
+
+
+@sample
+def cut_bands():
+    """A start by kind 6 cut inside its second row."""
+    return [band_start([(2, 100)]), TWO[:16]]
+
+
+@sample
+def cut_bands_count():
+    """A start by kind 6 cut inside its count."""
+    return [band_start([(2, 100)]), TWO[:5]]
+
+
+@sample
+def cut_bands_count_9():
+    """A start by kind 6 of nine rows that lacks its last byte: it ends the walk, where a whole one is answered 1."""
+    return [band_start(rising(9)), band_start(rising(9))[:-1]]
+
+
+# 22 + 8 × 8,189 = 65,534
+LONGEST = band_start(rising(8_189))
+
+
+@sample
+def bands_longest():
+    """A start by kind 6 of 8,189 rows has 65,534 bytes, the longest record there can be: it is answered 1, and one that lacks its last byte ends the walk."""
+    return [OPENING, LONGEST, band_start(BANDS), buy(10, 100_050), LONGEST[:-1]]
+
+
+@sample
+def bands_boundaries():
+    """Starts by kind 6, more than 256 KiB: reads end before a count, in a count, in a table and behind one, where a buffer of 64 KiB keeps what was cut off."""
+    file = bytearray()
+
+    def fill(end):
+        """One long start up to this length, that is answered 1, behind as many closings of 5 bytes as leave room for whole rows of 8."""
+        while (end - len(file) - 22) % 8:
+            file.extend(CLOSING)
+        file.extend(band_start(rising((end - len(file) - 22) // 8)))
+
+    read = 65_536
+    for before in (4, 5, 20, 30):
+        fill(read - before)
+        # a reader that moves what is cut off to the front of its 64 KiB reads up to here next
+        read = len(file) + 65_536
+        file.extend(TWO)
+    return [file, buy(10, 100_050), buy(10, 99_950), OPENING]
+
+
 @sample
 def fault_after_good():
     """A fault after good records: they are answered, trades and all, the fault has the next place, and the end doesn't count it."""
@@ -921,6 +1141,14 @@ def fault_then_owes():
     return [start(), buy(50, 100_000), sell(30, 100_000, member=8), OPENING, struct.pack("<HHB", 6, 4, 2), CLOSING]
 
 
+@clearing
+def bands_owed():
+    """Rows of steps (K6): member 9's buy off its row's step is refused and enters nobody, so rows and columns go 8, 7, 9."""
+    return [
+        band_start(BANDS), buy(10, 100_050, member=9), sell(40, 99_950, member=8), buy(30, 99_950), buy(10, 100_000, member=9), OPENING,
+    ]
+
+
 def one_each(count):
     """A buy of each of the members from 101 on."""
     return [buy(1, 99_000, member=101 + n) for n in range(count)]
@@ -965,7 +1193,7 @@ says what is right there, so a `.out` changes only when a rule does.
 Unless the sentence says otherwise a session has the step 100, the reference price 100,000, the factor 9, the threshold 150 and the maximum order value
 1,000,000,000,000, its orders are day orders of member 7, and its quotes are of that member, too. Refusals are named by their number in the scope document
 and, for 13 and 16, in the change requests for quotes (K2) and for the square (K5). Refusal 12 can't come up in a file: the programs lend every auction a
-list that is long enough.
+list that is long enough. In a start by kind 6 (K6) a row (100,000, 70) is one with the lowest price 100,000 and the step 70.
 
 | file | what it shows |
 |---|---|

@@ -1,13 +1,14 @@
 //! How often each rule of the square (K5) came up, by a file and the lines that `clearing` prints for
 //! it. What is owed is added up here again from the trades, to be held to the lines behind the end.
 
+use crate::bands;
 use crate::counts::{Counts, Followed, Rules, Seen};
 use crate::records::*;
 use std::collections::{BTreeMap, BTreeSet};
 
 /// How members come by a row; the answers while all rows are taken, to one that has none and to one
 /// that has; where 16 was given, though a place or a row might be thought free; what cells hold; and
-/// the lines behind the end.
+/// the lines behind the end. Of K6: the kind of the start, and one that ends the walk.
 pub const RULES: &Rules = &[
     ("row", &["by an order", "by a quote", "after a refusal", "the last, others refused before"]),
     ("33rd's order", &["1", "4", "5", "6", "7", "8", "16"]),
@@ -17,6 +18,8 @@ pub const RULES: &Rules = &[
     ("cell", &["of two members", "of one with itself", "by two auctions", "with a quote's side"]),
     ("owes lines", &["none", "1 to 20", "more than 20", "not by member number"]),
     ("total", &["0", "above 0", "0 after a fault", "above 0 after a fault"]),
+    ("started by", &["kind 1", "kind 6"]),
+    ("kind 6, fault", &["its length", "cut"]),
 ];
 
 /// A member that was entered, how many numbers it got, and how many of these it deleted.
@@ -46,7 +49,7 @@ struct Square {
 
 /// Counts what came up in a file, by the lines printed for it.
 pub fn count(counts: &mut Counts, seen: &Seen) {
-    let (printed, (records, _)) = (String::from_utf8_lossy(seen.printed), walk(seen.file));
+    let (printed, (records, rest)) = (String::from_utf8_lossy(seen.printed), walk(seen.file));
     let (mut lines, mut records) = (printed.lines(), records.iter());
     let (mut square, mut after) = (Square::default(), "");
     // What comes up in any session is counted with the sessions.
@@ -60,7 +63,12 @@ pub fn count(counts: &mut Counts, seen: &Seen) {
                 square.trade([number(1), number(2)], number(3), counts);
                 square.followed.trade([number(1), number(2)], number(3), &mut others);
             }
-            [_, "fault", _] => after = " after a fault",
+            [_, "fault", _] => {
+                after = " after a fault";
+                if let Some(how) = bands::length_or_cut(rest) {
+                    counts.add("kind 6, fault", how);
+                }
+            }
             [_, _, answer, ..] => {
                 if let Some(record) = records.next() {
                     square.answered(record, answer, counts);
@@ -91,6 +99,8 @@ impl Square {
                 }
             }
             (AUCTION, "0") => self.auctions += 1,
+            (START, "0") => counts.add("started by", "kind 1"),
+            (BANDS, "0") => counts.add("started by", "kind 6"),
             _ => {}
         }
     }

@@ -1,6 +1,7 @@
 //! How often each rule came up, by a file and the lines printed for it. Lines do not tell which rule
 //! found a price: so the orders that rest are followed, and each auction is weighed here again.
 
+use crate::bands;
 use crate::records::*;
 use std::cmp::min;
 use std::collections::{BTreeMap, BTreeSet};
@@ -22,6 +23,9 @@ pub struct Seen<'a> {
 /// or fewer; that the old quote stays; what becomes of sides, and who trades with whom.
 /// Of K4: the answer by the controls, where the price in force would have given another; and that
 /// the start's reference price would have closed at another price.
+/// Of K6: starts by kind 6, the rows of those accepted and what others are refused for; limits at an
+/// edge and about it, and those that another row's step would answer otherwise; auctions whose price
+/// is in another row than the reference price in force; and how such a start ends the walk.
 pub const RULES: &Rules = &[
     ("start", &["0", "1", "3"]),
     ("order", &["0", "1", "2", "4", "5", "6", "7", "8", "9", "10"]),
@@ -46,6 +50,23 @@ pub const RULES: &Rules = &[
     ("closing, outcome", &["1", "2"]),
     ("fault", &["unknown kind", "wrong length", "cut record", "cut header"]),
     ("price by rule", &["1 alone", "2", "3 highest", "3 lowest", "4 all equal", "4 both exceed"]),
+    ("start by kind 6", &["0", "1", "3"]),
+    ("its rows", &["1", "2", "3 to 7", "8"]),
+    ("1 by kind 6", &["count 0", "count 9", "count above 9", "not from 1", "low too high"]),
+    ("1 by kind 6", &["equal lows", "falling lows", "step 0", "step too high", "a field"]),
+    ("1 by kind 6", &["reference off the step", "reference on the first's step"]),
+    ("order at edge", &["0", "5", "below: 0", "below: 5", "above: 0", "above: 5"]),
+    ("quote at edge", &["0", "5", "below: 0", "below: 5", "above: 0", "above: 5"]),
+    ("order by first", &["0 not 5", "5 not 0"]),
+    ("quote by first", &["0 not 5", "5 not 0"]),
+    ("order by next", &["below: 5 not 0", "above: 5 not 0"]),
+    ("quote by next", &["below: 5 not 0", "above: 5 not 0"]),
+    ("quote's sides", &["in one row", "in two rows"]),
+    ("price by row", &["the reference's", "another", "another, off the reference's step"]),
+    ("price by row", &["in force, not the start's"]),
+    ("fault by kind 6", &["no room for a count", "of a row less", "of a row more", "of no rows"]),
+    ("fault by kind 6", &["by a sum that wraps", "cut in its count", "cut in its rows"]),
+    ("fault by kind 6", &["cut behind its rows", "cut, and a bad count"]),
 ];
 
 /// An accepted order or quote side, by the fields of its record, with the quantity that is left.
@@ -102,6 +123,8 @@ fn deciding(orders: &[&Resting], reference: u64) -> (&'static str, u64) {
 pub struct Followed {
     pub resting: BTreeMap<u64, Resting>,
     terms: [u64; 5],
+    /// K6: the table of steps; a start by kind 1 means one row.
+    rows: Vec<Row>,
     reference: u64,
     /// Of the last auction: whether it was the opening, and what rested before it.
     opening: bool,
@@ -118,15 +141,26 @@ impl Followed {
     pub fn answered(&mut self, record: &Record, answer: &str, told: [u64; 2], counts: &mut Counts) {
         let [first, second, third, fourth, fifth] = record.values;
         match record.kind {
-            ORDER => self.by_start("order by start", &[(fourth, fifth)], answer, counts),
+            ORDER => {
+                self.by_start("order by start", &[(fourth, fifth)], answer, counts);
+                self.by_row("order", &[fifth], answer, counts);
+            }
             QUOTE => {
                 let sides = [(second, third), (fourth, fifth)];
                 self.by_start("quote by start", &sides, answer, counts);
+                self.by_row("quote", &[third, fifth], answer, counts);
             }
+            BANDS => by_kind_6(record, answer, counts),
             _ => {}
         }
         match (record.kind, answer) {
-            (START, "0") => (self.terms, self.reference) = (record.values, second),
+            (START | BANDS, "0") => {
+                (self.terms, self.reference) = (record.values, second);
+                self.rows = record.rows.clone();
+                if record.kind == START {
+                    self.rows = vec![[1, first]];
+                }
+            }
             (ORDER, "0") => {
                 let (member, side, validity, limit) = (first, second, third, fifth);
                 let (entered, left, quoted) = (fourth, fourth, false);
@@ -216,10 +250,10 @@ impl Followed {
 
     /// Those of 5 to 8 that a quantity with a limit would meet, by a reference price.
     fn controls(&self, reference: u64, quantity: u64, limit: u64) -> Vec<&'static str> {
-        let ([step, _, factor, _, maximum], limited) = (self.terms, limit != UNLIMITED);
+        let ([_, _, factor, _, maximum], limited) = (self.terms, limit != UNLIMITED);
         let collar = limit >= reference * factor || limit * factor <= reference;
         let met = [
-            ("5", limited && limit % step > 0),
+            ("5", bands::off_step(&self.rows, limit)),
             ("6", limited && collar),
             ("7", limited && quantity * limit >= maximum),
             ("8", quantity * reference >= maximum),
@@ -240,6 +274,74 @@ impl Followed {
         }
     }
 
+    /// K6: the limits of an order or a quote by their rows, where it was taken or refused by 5.
+    fn by_row(&self, word: &str, limits: &[u64], answer: &str, counts: &mut Counts) {
+        let off = |limit: &u64| bands::off_step(&self.rows, *limit);
+        match (answer, limits.iter().any(off)) {
+            ("0", false) | ("5", true) => {}
+            ("0", true) => return counts.add(word, "0 off its row's step"),
+            ("5", false) => return counts.add(word, "5 on its row's step"),
+            // There may have been no start.
+            _ => return,
+        }
+        // The sides that the answer is about; and where there is one row, there is no edge.
+        let about = limits.iter().filter(|limit| (answer == "5") == off(limit));
+        for limit in about.filter(|limit| **limit != UNLIMITED && self.rows.len() > 1) {
+            self.at_an_edge(&format!("{word} at edge"), *limit, answer, counts);
+            self.by_another(word, *limit, answer, counts);
+        }
+        if let ([bid, ask], "0", 2..) = (limits, answer, self.rows.len()) {
+            let same = bands::row(&self.rows, *bid) == bands::row(&self.rows, *ask);
+            counts.add("quote's sides", if same { "in one row" } else { "in two rows" });
+        }
+    }
+
+    fn at_an_edge(&self, word: &str, limit: u64, answer: &str, counts: &mut Counts) {
+        for [low, _] in &self.rows[1..] {
+            match limit.checked_sub(low - 1) {
+                Some(0) => counts.add(word, &format!("below: {answer}")),
+                Some(1) => counts.add(word, answer),
+                Some(2) => counts.add(word, &format!("above: {answer}")),
+                _ => {}
+            }
+        }
+    }
+
+    /// What the step of another row would have answered: of the first, and of those beside its own.
+    fn by_another(&self, word: &str, limit: u64, answer: &str, counts: &mut Counts) {
+        let own = bands::row(&self.rows, limit);
+        let fits = |row: usize| bands::fits(&self.rows, row, limit);
+        match answer {
+            "0" if !fits(0) => counts.add(&format!("{word} by first"), "0 not 5"),
+            "5" if own > 0 && fits(0) => counts.add(&format!("{word} by first"), "5 not 0"),
+            _ => {}
+        }
+        if answer == "5" && own > 0 && fits(own - 1) {
+            counts.add(&format!("{word} by next"), "below: 5 not 0");
+        }
+        if answer == "5" && fits(own + 1) {
+            counts.add(&format!("{word} by next"), "above: 5 not 0");
+        }
+    }
+
+    /// K6: the row of an auction's price, and of the reference price in force before it.
+    fn price_by_row(&self, price: u64, counts: &mut Counts) {
+        let (row, word) = (|price| bands::row(&self.rows, price), "price by row");
+        let same = row(price) == row(self.reference);
+        if bands::off_step(&self.rows, price) {
+            counts.add(word, "off its step");
+        }
+        if self.rows.len() > 1 {
+            counts.add(word, if same { "the reference's" } else { "another" });
+        }
+        if !same && !bands::fits(&self.rows, row(self.reference), price) {
+            counts.add(word, "another, off the reference's step");
+        }
+        if price == self.reference && row(price) != row(self.terms[1]) {
+            counts.add(word, "in force, not the start's");
+        }
+    }
+
     /// The trades come in the lines that follow: rests that are deleted are gone before them.
     fn auction(&mut self, opening: bool, [outcome, price]: [u64; 2], counts: &mut Counts) {
         let word = if opening { "opening, outcome" } else { "closing, outcome" };
@@ -254,6 +356,7 @@ impl Followed {
             }
         }
         if outcome == 1 {
+            self.price_by_row(price, counts);
             self.reference = price;
         }
         (self.opening, self.before) = (opening, self.resting.clone());
@@ -302,6 +405,22 @@ impl Followed {
     }
 }
 
+/// K6: a start by kind 6, what it is refused for, and that it is just where something is wrong.
+fn by_kind_6(start: &Record, answer: &str, counts: &mut Counts) {
+    counts.add("start by kind 6", answer);
+    match (answer, bands::wrong(start)) {
+        ("1", Some(wrong)) => counts.add("1 by kind 6", wrong),
+        ("1", None) => counts.add("1 by kind 6", "nothing wrong"),
+        (_, Some(_)) => counts.add("start by kind 6", "not 1"),
+        ("0", None) => {
+            let rows = start.rows.len();
+            let some = rows.to_string();
+            counts.add("its rows", if (3..8).contains(&rows) { "3 to 7" } else { &some });
+        }
+        _ => {}
+    }
+}
+
 #[derive(Default)]
 pub struct Counts(BTreeMap<String, u64>);
 
@@ -326,7 +445,12 @@ impl Counts {
             match words[..] {
                 ["end", _] => {}
                 ["trade", ..] => followed.trade([number(1), number(2)], number(3), self),
-                [_, "fault", _] => self.add("fault", fault(rest).unwrap_or("none")),
+                [_, "fault", _] => {
+                    self.add("fault", fault(rest).unwrap_or("none"));
+                    if let Some(how) = bands::fault_by(rest) {
+                        self.add("fault by kind 6", how);
+                    }
+                }
                 [_, word, answer, ..] => {
                     self.add(word, answer);
                     if let Some(record) = records.next() {

@@ -1,11 +1,13 @@
 //! How often each answer of the calls that change nothing came up, by a file and the lines that
 //! `looks` prints for it.
 
+use crate::bands;
 use crate::counts::{Counts, Rules, Seen};
-use crate::records::{fault, walk, AUCTION, LOOKED_AT};
+use crate::records::{fault, walk, AUCTION, BANDS, LOOKED_AT};
 use std::collections::BTreeSet;
 
-/// Phases, answers, outcomes, how long a queue or a front is, and how a file ends.
+/// Phases, answers, outcomes, how long a queue or a front is, and how a file ends. Of K6: the kind of
+/// the start, and one that ends the walk.
 pub const RULES: &Rules = &[
     ("phase", &["fresh", "pre-opening", "day", "closed"]),
     ("theoretical", &["0", "1", "2", "4"]),
@@ -21,6 +23,8 @@ pub const RULES: &Rules = &[
     ("walk, up to", &["the end", "unknown kind", "wrong length", "cut record", "cut header"]),
     ("faulty auction", &["wrong length", "cut record"]),
     ("file", &["below the bound", "up to it", "cut between records", "cut in a record"]),
+    ("started by", &["kind 1", "kind 6"]),
+    ("kind 6, fault", &["its length", "cut"]),
 ];
 
 /// What lines tell to those behind them.
@@ -38,9 +42,16 @@ struct Told<'a> {
 pub fn count(counts: &mut Counts, seen: &Seen) {
     let (lines, mut told) = (String::from_utf8_lossy(seen.printed), Told::default());
     let file = seen.file.get(..LOOKED_AT).unwrap_or(seen.file);
+    let (records, _) = walk(file);
     for line in String::from_utf8_lossy(&(seen.session)(file)).lines() {
-        if let [_, "quote", "0", bid, ask] = line.split(' ').collect::<Vec<_>>()[..] {
-            told.sides.extend([bid.to_string(), ask.to_string()]);
+        match line.split(' ').collect::<Vec<_>>()[..] {
+            [_, "quote", "0", bid, ask] => told.sides.extend([bid.to_string(), ask.to_string()]),
+            [place, "start", "0"] => {
+                let start = place.parse::<usize>().ok().and_then(|place| records.get(place - 1));
+                let bands = start.is_some_and(|start| start.kind == BANDS);
+                counts.add("started by", if bands { "kind 6" } else { "kind 1" });
+            }
+            _ => {}
         }
     }
     for line in lines.lines() {
@@ -137,6 +148,9 @@ fn ended(file: &[u8], counts: &mut Counts) {
     let (_, rest) = walk(file.get(..LOOKED_AT).unwrap_or(file));
     let end = fault(rest).filter(|_| !rest.is_empty()).unwrap_or("the end");
     counts.add("walk, up to", end);
+    if let Some(how) = bands::length_or_cut(rest) {
+        counts.add("kind 6, fault", how);
+    }
     // Such a one has no look of its own.
     if rest.get(2..4) == Some(&[AUCTION as u8, 0]) {
         counts.add("faulty auction", end);

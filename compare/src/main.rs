@@ -12,6 +12,7 @@
 //! the file's records, written anew. With --clearing it is the square: CMD and `PROGRAM --clearing`
 //! print the lines of a session that keeps it, and then who owes whom.
 
+mod bands;
 mod clearing;
 mod counts;
 mod looks;

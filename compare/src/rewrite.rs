@@ -1,10 +1,12 @@
 //! How far each file was rewritten, by what `rewrite` prints for it and the lines of its session:
 //! up to the first record that is faulty or answered 1, and byte for byte what the file has there.
 
+use crate::bands;
 use crate::counts::{Counts, Rules, Seen};
-use crate::records::{fault, fields, walk, Record, FACTOR, LOOKED_AT, QUOTE, START};
+use crate::records::{fault, fields, walk, Record, BANDS, FACTOR, LOOKED_AT, QUOTE, START};
 
-/// How a file came out, what cut it, and how it meets the bound of what `rewrite` takes of it.
+/// How a file came out, what cut it, and how it meets the bound of what `rewrite` takes of it. Of K6:
+/// the rows of starts that came out, and what cut a file at one.
 pub const RULES: &Rules = &[
     ("file", &["out whole", "cut at a fault", "cut at a field"]),
     ("fault", &["unknown kind", "wrong length", "cut record", "cut header"]),
@@ -12,6 +14,9 @@ pub const RULES: &Rules = &[
     ("out", &["nothing of some", "one record", "more records"]),
     ("quote out", &["bid below ask", "not below: 13"]),
     ("in", &["up to the bound", "cut between records", "cut in a record", "cut by one byte"]),
+    ("kind 6 out", &["1 row", "2 to 7 rows", "8 rows"]),
+    ("kind 6, field", &["count 0", "count above 8", "the table", "the reference", "another"]),
+    ("kind 6, fault", &["its length", "cut"]),
 ];
 
 /// Counts how far a file came out. Where the output is not those records, nothing else is counted.
@@ -31,12 +36,18 @@ pub fn count(counts: &mut Counts, seen: &Seen) {
         "fault" => {
             counts.add("file", "cut at a fault");
             counts.add("fault", fault(rest).unwrap_or("none"));
+            if let Some(how) = bands::length_or_cut(rest) {
+                counts.add("kind 6, fault", how);
+            }
         }
         word => {
             counts.add("file", "cut at a field");
             counts.add("field", word);
             if records.get(written).is_some_and(no_multiple) {
                 counts.add("field", "no multiple");
+            }
+            if let Some(start) = records.get(written).filter(|record| record.kind == BANDS) {
+                counts.add("kind 6, field", by_kind_6(start));
             }
         }
     }
@@ -49,6 +60,15 @@ pub fn count(counts: &mut Counts, seen: &Seen) {
     for quote in records.iter().take(written).filter(|record| record.kind == QUOTE) {
         let below = quote.values[2] < quote.values[4];
         counts.add("quote out", if below { "bid below ask" } else { "not below: 13" });
+    }
+    for start in records.iter().take(written).filter(|record| record.kind == BANDS) {
+        let rows = match start.rows.len() {
+            1 => "1 row",
+            2..=7 => "2 to 7 rows",
+            8 => "8 rows",
+            _ => "of a bad count",
+        };
+        counts.add("kind 6 out", rows);
     }
     let bound = match seen.file.get(..LOOKED_AT + 1).map(walk) {
         None => "up to the bound",
@@ -66,6 +86,18 @@ fn stopped(lines: &str) -> Option<(usize, &str)> {
         [place, word, "1", ..] => Some((place.parse::<usize>().ok()?.checked_sub(1)?, word)),
         _ => None,
     })
+}
+
+/// What is bad in a start by kind 6.
+fn by_kind_6(start: &Record) -> &'static str {
+    match bands::wrong(start) {
+        Some("count 0") => "count 0",
+        Some("count 9" | "count above 9") => "count above 8",
+        Some("a field") => "another",
+        Some(wrong) if wrong.starts_with("reference") => "the reference",
+        Some(_) => "the table",
+        None => "nothing",
+    }
 }
 
 /// A start in which nothing else is bad than that the reference price is no multiple of the step.

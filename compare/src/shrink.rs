@@ -1,6 +1,6 @@
 //! Makes a file on which the two programs differ as small as a bounded number of tries gets it.
 
-use crate::records::{fields, walk, Record};
+use crate::records::{fields, walk, Record, Row};
 use std::time::{Duration, Instant};
 
 const TRIES: u32 = 1_000;
@@ -26,8 +26,13 @@ pub fn shrink(file: &[u8], differs: &dyn Fn(&[u8]) -> bool) -> Vec<u8> {
     let (mut records, rest) = walk(file);
     shrink.drop_runs(&mut records, |records| packed(records, rest));
     for place in 0..records.len() {
+        shrink.drop_rows(&mut records, place, rest);
         for field in 0..fields(records[place].kind).len() {
-            shrink.lower(&mut records, place, field, rest);
+            shrink.lower(&mut records, place, |record| &mut record.values[field], rest);
+        }
+        for row in 0..records[place].rows.len() {
+            shrink.lower(&mut records, place, |record| &mut record.rows[row][0], rest);
+            shrink.lower(&mut records, place, |record| &mut record.rows[row][1], rest);
         }
     }
     let mut bytes = packed(&records, rest);
@@ -65,15 +70,39 @@ impl Shrink<'_> {
         }
     }
 
-    /// Lowers a field to 1 if that will do, else by less and less.
-    fn lower(&mut self, records: &mut [Record], place: usize, field: usize, rest: &[u8]) {
-        let mut by = records[place].values[field].saturating_sub(1);
+    /// K6: leaves out rows of a table, with a count of those that are left.
+    fn drop_rows(&mut self, records: &mut [Record], place: usize, rest: &[u8]) {
+        let mut rows = records[place].rows.clone();
+        let with = |record: &mut Record, rows: &[Row]| {
+            (record.values[0], record.rows) = (rows.len() as u64, rows.to_vec());
+        };
+        let fewer = |rows: &[Row]| {
+            let mut records = records.to_vec();
+            with(&mut records[place], rows);
+            packed(&records, rest)
+        };
+        let before = rows.len();
+        self.drop_runs(&mut rows, fewer);
+        if rows.len() < before {
+            with(&mut records[place], &rows);
+        }
+    }
+
+    /// Lowers a number of a record to 1 if that will do, else by less and less.
+    fn lower(
+        &mut self,
+        records: &mut [Record],
+        place: usize,
+        number: impl Fn(&mut Record) -> &mut u64,
+        rest: &[u8],
+    ) {
+        let mut by = number(&mut records[place]).saturating_sub(1);
         while by > 0 && !self.spent() {
-            let value = records[place].values[field];
+            let value = *number(&mut records[place]);
             if value > by {
-                records[place].values[field] = value - by;
+                *number(&mut records[place]) = value - by;
                 if !self.differs(&packed(records, rest)) {
-                    records[place].values[field] = value;
+                    *number(&mut records[place]) = value;
                 }
             }
             by /= 2;

@@ -1,7 +1,9 @@
 //! Session files by seed, each of a temperament: a kind of trouble. A seed has the same bytes on
 //! every machine.
 
+use crate::bands;
 use crate::records::*;
+use std::mem::take;
 use std::ops::RangeInclusive;
 
 /// The splitmix64 sequence.
@@ -42,6 +44,9 @@ struct Maker {
     factor: u64,
     threshold: u64,
     maximum: u64,
+    /// K6: whether the start record is of kind 6, and its table once there is one.
+    by_bands: bool,
+    rows: Vec<Row>,
     /// The members of the orders and quote sides so far: if none was refused, by their numbers.
     given: Vec<u64>,
 }
@@ -72,28 +77,42 @@ const TEMPERS: [(&str, Temper); 20] = [
 ];
 /// The first so many make good files, for others to cut, to damage and to put together.
 const GOOD: u64 = 12;
+/// K6: every so many seeds it is bands, a turn of their own: the others' files stay as they are.
+const BANDS_EVERY: u64 = TEMPERS.len() as u64 + 1;
 
 /// The name of a seed's temperament, and its file. Seed 0 is the one that gives its last number.
 pub fn session_file(seed: u64) -> (&'static str, Vec<u8>) {
     let (name, temper) = match seed {
         0 => ("the last number", last_number as Temper),
+        _ if seed % BANDS_EVERY == 0 => ("bands", bands as Temper),
         _ => TEMPERS[(seed as usize - 1) % TEMPERS.len()],
     };
     (name, made(seed, temper))
 }
 
-/// For the square: every other file has many members, the others are those of the sessions.
+/// For the square: every other file has many members, some of them with bands (K6); the others are
+/// those of the sessions.
 pub fn clearing_file(seed: u64) -> (&'static str, Vec<u8>) {
-    match seed % 2 {
-        0 => session_file(seed / 2),
+    match (seed % 2, seed % 7) {
+        (0, _) => session_file(seed / 2),
+        (_, 0) => ("many members, by bands", made(seed, many_members_by_bands)),
         _ => ("many members", made(seed, many_members)),
     }
 }
 
 fn made(seed: u64, temper: Temper) -> Vec<u8> {
-    let [step, reference, factor, threshold, maximum] = [100, 100_000, 9, 150, VALUE_MAX];
-    let (dice, file, given) = (Dice(seed), Vec::new(), Vec::new());
-    let mut maker = Maker { dice, file, step, reference, factor, threshold, maximum, given };
+    let mut maker = Maker {
+        dice: Dice(seed),
+        file: Vec::new(),
+        step: 100,
+        reference: 100_000,
+        factor: 9,
+        threshold: 150,
+        maximum: VALUE_MAX,
+        by_bands: false,
+        rows: Vec::new(),
+        given: Vec::new(),
+    };
     if seed > 0 && maker.dice.once_in(2) {
         maker.other_terms();
     }
@@ -132,13 +151,17 @@ pub fn looks_file(seed: u64) -> (&'static str, Vec<u8>) {
     (name, file)
 }
 
-/// The same for the writer; half of the files longer than what `rewrite` takes begin with one more
-/// auction, or no record would end one byte behind the bound: theirs end at even offsets.
+/// The same for the writer, with bands more often (K6); half of the files longer than what `rewrite`
+/// takes begin with one more auction, or no record would end one byte behind the bound: theirs end at
+/// even offsets.
 pub fn rewrite_file(seed: u64) -> (&'static str, Vec<u8>) {
-    let (name, session) = session_file(seed);
+    let (name, session) = match seed % 7 {
+        0 => ("bands", made(seed, bands)),
+        _ => session_file(seed),
+    };
     let mut file = Vec::new();
     if session.len() > LOOKED_AT && Dice(!seed).once_in(2) {
-        Record { kind: AUCTION, values: [OPENING, 0, 0, 0, 0] }.pack(&mut file);
+        Record::new(AUCTION, [OPENING, 0, 0, 0, 0]).pack(&mut file);
     }
     file.extend(session);
     (name, file)
@@ -146,14 +169,14 @@ pub fn rewrite_file(seed: u64) -> (&'static str, Vec<u8>) {
 
 fn look(dice: &mut Dice, file: &mut Vec<u8>) {
     let byte = dice.one_of(&[0, 3, 9, 255]);
-    Record { kind: AUCTION, values: [byte, 0, 0, 0, 0] }.pack(file);
+    Record::new(AUCTION, [byte, 0, 0, 0, 0]).pack(file);
 }
 
 /// Looks up to the bound exactly. They have 5 bytes; up to four orders of zeros, which change
 /// nothing either, have 16 each and make up the remainder.
 fn fill(dice: &mut Dice, file: &mut Vec<u8>) {
     for _ in 0..(LOOKED_AT - file.len()) % 5 {
-        Record { kind: ORDER, values: [0; 5] }.pack(file);
+        Record::new(ORDER, [0; 5]).pack(file);
     }
     while file.len() < LOOKED_AT {
         look(dice, file);
@@ -193,12 +216,66 @@ impl Maker {
     }
 
     fn put(&mut self, kind: usize, values: [u64; 5]) {
-        Record { kind, values }.pack(&mut self.file);
+        Record::new(kind, values).pack(&mut self.file);
     }
 
     fn start(&mut self) {
+        if self.by_bands {
+            self.table();
+            return self.banded().pack(&mut self.file);
+        }
         let terms = [self.step, self.reference, self.factor, self.threshold, self.maximum];
         self.put(START, terms);
+    }
+
+    /// K6: a start with the table as it is.
+    fn banded(&self) -> Record {
+        let (rows, reference) = (self.rows.clone(), self.reference);
+        let values = [rows.len() as u64, reference, self.factor, self.threshold, self.maximum];
+        Record { kind: BANDS, values, rows }
+    }
+
+    /// K6: up to eight rows about the reference price, one of them from it on, from a price beside
+    /// it, or from one a step away. Some begin close together; their steps divide each other or
+    /// don't; and the reference price is a multiple of its own row's.
+    fn table(&mut self) {
+        let (step, reference) = (self.step, self.reference);
+        let (mut lows, mut low) = (Vec::new(), 0);
+        for _ in 1..self.dice.one_of(&[1, 2, 2, 3, 4, 8, 8]) {
+            let (near, far) = (step * self.dice.within(1..=5), self.dice.within(1..=reference));
+            low += self.dice.one_of(&[1, 1, 2, step, near, near, far]);
+            lows.push(low);
+        }
+        self.rows = vec![[1, 0]];
+        if !lows.is_empty() {
+            let edge = self.dice.one_of(&lows);
+            let beside = [reference - 1, reference, reference, reference + 1];
+            let about = self.dice.one_of(&beside);
+            let about = self.dice.one_of(&[about, about, reference - step, reference + step]);
+            let moved = lows.into_iter().map(|low| (about + low).saturating_sub(edge));
+            let good = moved.filter(|low| (2..=PRICE_MAX).contains(low));
+            self.rows.extend(good.map(|low| [low, 0]));
+        }
+        let own = bands::row(&self.rows, reference);
+        for row in 0..self.rows.len() {
+            let any = self.dice.within(1..=STEP_MAX);
+            let steps = [step, step, 2 * step, 3 * step, 10 * step, step / 2, step / 5, 1, 7, any];
+            let good = |by: &u64| {
+                (1..=STEP_MAX).contains(by) && (row != own || reference.is_multiple_of(*by))
+            };
+            let steps: Vec<u64> = steps.into_iter().filter(good).collect();
+            self.rows[row][1] = self.dice.one_of(&steps);
+        }
+    }
+
+    /// The good limit nearest to a price; without a table it is one.
+    fn good_limit(&self, price: u64) -> u64 {
+        let ends = self.rows.iter().skip(1).map(|[low, _]| low - 1).chain([PRICE_MAX]);
+        let beside = self.rows.iter().zip(ends).flat_map(|([low, step], end)| {
+            let at = price.clamp(*low, end) / step * step;
+            [at, at + step].into_iter().filter(move |at| (*low..=end).contains(at))
+        });
+        beside.min_by_key(|at| at.abs_diff(price)).unwrap_or(price)
     }
 
     /// How many numbers were given, if nothing was refused.
@@ -251,7 +328,8 @@ impl Maker {
         let away = self.step * self.dice.within(0..=steps);
         let lower = self.reference.saturating_sub(away).max(self.step);
         let higher = (self.reference + away).min(PRICE_MAX / self.step * self.step);
-        self.dice.one_of(&[lower, higher])
+        let limit = self.dice.one_of(&[lower, higher]);
+        self.good_limit(limit)
     }
 
     /// Good limits of a bid and an ask; equal where there is no room for two.
@@ -259,7 +337,7 @@ impl Maker {
         let mut limits = [self.near(steps), self.near(steps)];
         limits.sort_unstable();
         if limits[0] == limits[1] {
-            limits[0] = (limits[0] - self.step).max(self.step);
+            limits[0] = self.good_limit(limits[0].saturating_sub(self.step).max(self.step));
         }
         limits
     }
@@ -301,9 +379,11 @@ impl Maker {
     /// Orders that would suit another session: off the step, out of the collar, too large.
     fn misfits(&mut self, count: RangeInclusive<u64>) {
         let terms = (self.step, self.reference, self.factor, self.threshold);
+        let rows = take(&mut self.rows);
         self.other_terms();
         self.any_orders(count, 10);
         (self.step, self.reference, self.factor, self.threshold) = terms;
+        self.rows = rows;
     }
 
     /// A quote with a field out of range or a bid not below its ask; or one that the controls
@@ -344,6 +424,130 @@ impl Maker {
             _ => (values[3], values[4]) = (self.maximum.div_ceil(self.reference), UNLIMITED),
         }
         self.put(ORDER, values);
+    }
+
+    /// K6: a price at the edge between two rows, one beside it, or a multiple of the step of either
+    /// row next to it.
+    fn edge(&mut self) -> u64 {
+        let last = self.rows.len() as u64 - 1;
+        let row = self.dice.within(last.min(1)..=last) as usize;
+        let (low, beside) = (self.rows[row][0], &self.rows[row.saturating_sub(1)..=row]);
+        let [_, step] = self.dice.one_of(beside);
+        let (below, from) = ((low - 1) / step * step, low.div_ceil(step) * step);
+        let price = self.dice.one_of(&[low, low, low - 1, low + 1, below, from, from + step]);
+        price.clamp(1, PRICE_MAX)
+    }
+
+    /// K6: an order at an edge, or a quote with a side at one or two; where a limit is off its row's
+    /// step it gets no number.
+    fn entry_at_edge(&mut self) {
+        let (side, quantity, limit) = (self.side(), self.dice.within(1..=100), self.edge());
+        let off = |maker: &Maker, limit| bands::off_step(&maker.rows, limit);
+        if !self.dice.once_in(3) {
+            let validity = self.dice.one_of(&[DAY, DAY, TILL_LATER, AT_THE_OPENING, AT_THE_CLOSE]);
+            match off(self, limit) {
+                true => self.put(ORDER, [1, side, validity, quantity, limit]),
+                false => self.order(side, validity, quantity, limit),
+            }
+            return;
+        }
+        let (member, edge, near) = (self.dice.within(1..=MEMBERS), self.edge(), self.near(3));
+        let other = self.dice.one_of(&[edge, edge, near, self.good_limit(edge)]);
+        let [bid, ask] = [limit.min(other), limit.max(other)];
+        let values = [member, quantity, bid, quantity, ask];
+        match bid == ask || off(self, bid) || off(self, ask) {
+            true => self.put(QUOTE, values),
+            false => self.quote(values),
+        }
+    }
+
+    /// K6: a start by kind 6 with one thing wrong, of a length that fits its count.
+    fn bad_bands(&mut self) {
+        let mut start = self.banded();
+        let [low, _] = self.rows[self.rows.len() - 1];
+        let row = self.dice.within(0..=self.rows.len() as u64 - 1) as usize;
+        match self.dice.within(0..=9) {
+            0 => start.rows[0][0] = self.dice.one_of(&[0, 2]),
+            1 => {
+                // Equal to the one before it, below it, or no price.
+                start.rows.truncate(TABLE_MAX as usize - 1);
+                let low = start.rows[start.rows.len() - 1][0];
+                let low = self.dice.one_of(&[low, low, low - 1, PRICE_MAX + 1, u64::MAX]);
+                start.rows.push([low, self.step]);
+            }
+            2 if self.rows.len() > 1 => {
+                let next = (row + 1) % self.rows.len();
+                (start.rows[row][0], start.rows[next][0]) = (self.rows[next][0], self.rows[row][0]);
+            }
+            3 => start.rows[row][1] = self.dice.one_of(&[0, STEP_MAX + 1, u64::MAX]),
+            4 => start.rows.clear(),
+            5 | 6 => {
+                // More rows than there may be, of steps that any price fits; 257 ends as 1 does.
+                let some = self.dice.within(TABLE_MAX + 1..=8_189);
+                let count = self.dice.one_of(&[9, 9, 9, 10, 16, 255, 256, 257, 264, some, 8_189]);
+                let more = (low + 1..).map(|low| [low, 1]);
+                start.rows.extend(more.take(count as usize - self.rows.len()));
+            }
+            7 => start.values[1] = self.off_reference(),
+            _ => {
+                let field = self.dice.within(1..=4) as usize;
+                let least = if field == 2 { FACTOR.0 - 1 } else { 0 };
+                start.values[field] = self.dice.one_of(&[least, fields(BANDS)[field].1 + 1]);
+            }
+        }
+        start.values[0] = start.rows.len() as u64;
+        start.pack(&mut self.file);
+    }
+
+    /// K6: a reference price off its row's step, on another row's; 0 if there is none.
+    fn off_reference(&mut self) -> u64 {
+        let mut found = Vec::new();
+        for [low, _] in &self.rows {
+            for [_, step] in &self.rows {
+                let next = low.div_ceil(*step) * step;
+                found.extend([next, next + step]);
+            }
+        }
+        found.retain(|at| *at <= PRICE_MAX && bands::off_step(&self.rows, *at));
+        if found.is_empty() {
+            found.push(0);
+        }
+        self.dice.one_of(&found)
+    }
+
+    /// K6: a start by kind 6 whose length doesn't fit its count, or has no room for one, or fits it
+    /// only where sums wrap; or one that is cut. What stands behind is not read.
+    fn faulty_bands(&mut self) {
+        let (mut start, from) = (self.banded(), self.file.len());
+        let (count, whole) = (start.values[0], start.length());
+        let trouble = self.dice.within(0..=7);
+        match trouble {
+            0 => start.values[0] = self.dice.one_of(&[count - 1, count + 1]),
+            // 8,192 rows have 65,536 bytes.
+            1 => start.values[0] += 8_192 * self.dice.within(1..=7),
+            2 => start.values[0] = self.dice.one_of(&[8_190, 65_534, 65_535]),
+            _ => {}
+        }
+        start.pack(&mut self.file);
+        let near = [whole - 8, whole - 2, whole - 1, whole + 1, whole + 2, whole + 8];
+        let said = match trouble {
+            2 => length(BANDS, start.values[0] as usize) % 65_536,
+            3 => self.dice.one_of(&near),
+            4 => self.dice.one_of(&[4, 5]),
+            _ => whole,
+        };
+        self.file[from..from + 2].copy_from_slice(&(said as u16).to_le_bytes());
+        self.file.resize(from + said, 0);
+        match trouble {
+            0..=4 => self.any_orders(0..=3, 5),
+            _ => self.cut_from(from),
+        }
+    }
+
+    /// Cuts what stands behind this place, so that something of it is left.
+    fn cut_from(&mut self, place: usize) {
+        let left = self.dice.within(1..=(self.file.len() - place) as u64 - 1);
+        self.file.truncate(place + left as usize);
     }
 
     /// A good order or quote of a member. It gets no number where others have all rows (K5).
@@ -676,6 +880,83 @@ fn far_from_yesterday(maker: &mut Maker) {
     maker.auction(CLOSING);
 }
 
+/// K6: a table of steps, with what hunts it, or in a session of another temperament; and at times a
+/// trouble of its own.
+fn bands(maker: &mut Maker) {
+    maker.by_bands = true;
+    let trouble = maker.dice.within(0..=11);
+    if trouble <= 1 {
+        // Before the start: the session stays fresh.
+        maker.table();
+        for _ in 0..maker.dice.within(1..=6) {
+            maker.bad_bands();
+        }
+    }
+    match maker.dice.within(0..=9) {
+        0 => long_bands(maker),
+        1..=3 => maker.good_file(),
+        _ => edges(maker),
+    }
+    match trouble {
+        2 => {
+            let from = maker.file.len();
+            maker.bad_bands();
+            if maker.dice.once_in(2) {
+                maker.cut_from(from);
+            }
+        }
+        3..=7 => maker.faulty_bands(),
+        8 => {
+            // In the start, if it is the first record.
+            let place = maker.dice.within(0..=maker.banded().length() as u64 - 1);
+            maker.file[place as usize] ^= maker.dice.within(1..=255) as u8;
+        }
+        9 => {
+            maker.by_bands = false;
+            maker.start();
+            maker.banded().pack(&mut maker.file);
+        }
+        _ => {}
+    }
+}
+
+/// K6: limits about the edges, quotes across them, and auctions at a price in any row, which is the
+/// reference price of the next.
+fn edges(maker: &mut Maker) {
+    maker.factor = maker.dice.one_of(&[9, FACTOR.1]);
+    maker.start();
+    for auction in [OPENING, OPENING, CLOSING] {
+        for _ in 0..maker.dice.within(2..=12) {
+            maker.entry_at_edge();
+        }
+        if !maker.dice.once_in(4) {
+            // Enough to outweigh the others.
+            let price = maker.edge();
+            let price = maker.good_limit(price);
+            let limit = maker.dice.one_of(&[price, price, UNLIMITED]);
+            maker.order(BUY, DAY, 5_000, limit);
+            maker.order(SELL, DAY, 5_000, limit);
+        }
+        maker.auction(auction);
+    }
+    maker.any_deletions(0..=5);
+}
+
+/// K6: starts of all lengths, so that reads end anywhere in them. After the first they are refused.
+fn long_bands(maker: &mut Maker) {
+    let length = maker.dice.within(65_536..=200_000) as usize;
+    maker.start();
+    while maker.file.len() < length {
+        match maker.dice.within(0..=5) {
+            0 => maker.bad_bands(),
+            1 => maker.entry_at_edge(),
+            _ => maker.banded().pack(&mut maker.file),
+        }
+    }
+    maker.opening();
+    maker.auction(CLOSING);
+}
+
 /// K2: few members' quotes, overwritten again and again, with plain orders of these members in
 /// between, in a book that has room for none, for one or two more, or for all. Without trades the
 /// maker knows what rests, and so the numbers; the plain orders stay for the closing.
@@ -760,7 +1041,17 @@ fn many_members(maker: &mut Maker) {
     }
 }
 
-/// Each field of each kind bad or at an end, in any order and so in any phase.
+/// K6: the same with a table of steps, and at times a start that ends the walk.
+fn many_members_by_bands(maker: &mut Maker) {
+    maker.by_bands = true;
+    many_members(maker);
+    if maker.dice.once_in(2) {
+        maker.faulty_bands();
+    }
+}
+
+/// Each field of each kind bad or at an end, in any order and so in any phase; those of kind 6, whose
+/// length hangs on one of them, are bands' own.
 fn bad_fields(maker: &mut Maker) {
     let (price, mut records) = (maker.near(2), Vec::new());
     for (kind, values) in [
@@ -772,7 +1063,7 @@ fn bad_fields(maker: &mut Maker) {
     ] {
         for (field, (_, most)) in fields(kind).iter().enumerate() {
             for value in [0, 1, values[field], values[field] + 1, *most, most + 1, u64::MAX] {
-                let mut record = Record { kind, values };
+                let mut record = Record::new(kind, values);
                 record.values[field] = value;
                 // Or a bad step would be one that the reference price is no multiple of.
                 if kind == START && field == 0 && value > 0 {
@@ -851,7 +1142,8 @@ fn random_bytes(maker: &mut Maker) {
         } else {
             let bits = maker.dice.one_of(&[2, 8, 20, 64]);
             let values = [0; 5].map(|_: u64| maker.dice.roll() >> (64 - bits));
-            let kind = maker.dice.within(1..=KINDS as u64) as usize;
+            // One of kind 6 would be a fault nearly always: its length has to fit its count.
+            let kind = maker.dice.within(1..=QUOTE as u64) as usize;
             maker.put(kind, values);
         }
     }

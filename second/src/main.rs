@@ -24,6 +24,8 @@ mod tests;
 const PRICE: RangeInclusive<u64> = 1..=100_000_000;
 const QUANTITY: RangeInclusive<u64> = 1..=10_000_000;
 const STEP: RangeInclusive<u64> = 1..=1_000_000;
+/// K6: how many rows a table of steps has.
+const ROWS: RangeInclusive<usize> = 1..=8;
 const FACTOR: RangeInclusive<u64> = 2..=999;
 const THRESHOLD: RangeInclusive<u64> = 1..=9_999;
 const MAXIMUM_VALUE: RangeInclusive<u64> = 1..=1_000_000_000_000_000;
@@ -132,11 +134,38 @@ fn auction_of(auction: u64) -> Result<Auction, Refusal> {
     }
 }
 
-/// Check 1 of a start: the fields that are in range, "Numbers and their bounds".
-fn check_start(fields: [u64; 5]) -> Result<(), Refusal> {
-    let [step, reference, factor, threshold, maximum] = fields;
-    refuse(1, !STEP.contains(&step))?;
-    refuse(1, !PRICE.contains(&reference) || !reference.is_multiple_of(step))?;
+/// K6: a row of the table of steps, its lowest price and its step.
+type Row = [u64; 2];
+
+/// K6: a start of kind 1 means one row, and the first row begins at 1. Answers the table and the
+/// fields behind the step, which both kinds have.
+fn one_row([step, others @ ..]: [u64; 5]) -> ([Row; 1], [u64; 4]) {
+    ([[1, step]], others)
+}
+
+/// K6: whether a price is a multiple of the step of the row in which it falls, the last one that
+/// doesn't begin above it.
+fn on_step(rows: &[Row], price: u64) -> bool {
+    let row = rows.iter().rfind(|[lowest, _]| *lowest <= price);
+    row.is_some_and(|[_, step]| price.is_multiple_of(*step))
+}
+
+/// K6: a bad table is refused by 1. Each lowest price is a price and each step a step; the first
+/// row begins at 1 and lowest prices rise strictly.
+fn check_table(rows: &[Row]) -> Result<(), Refusal> {
+    refuse(1, !ROWS.contains(&rows.len()))?;
+    for [lowest, step] in rows {
+        refuse(1, !PRICE.contains(lowest) || !STEP.contains(step))?;
+    }
+    refuse(1, rows[0][0] != 1)?;
+    refuse(1, rows.windows(2).any(|pair| pair[0][0] >= pair[1][0]))
+}
+
+/// Check 1 of a start: the fields that are in range, "Numbers and their bounds" and K6.
+fn check_start(rows: &[Row], others: [u64; 4]) -> Result<(), Refusal> {
+    let [reference, factor, threshold, maximum] = others;
+    check_table(rows)?;
+    refuse(1, !PRICE.contains(&reference) || !on_step(rows, reference))?;
     refuse(1, !FACTOR.contains(&factor))?;
     refuse(1, !THRESHOLD.contains(&threshold))?;
     refuse(1, !MAXIMUM_VALUE.contains(&maximum))
@@ -171,7 +200,8 @@ fn check_quote(fields: [u64; 5]) -> Result<(), Refusal> {
 
 struct Session {
     phase: Phase,
-    step: u64,
+    /// K6: the table of steps.
+    rows: Vec<Row>,
     /// K4: the start record's reference price, for controls 6 and 8; no auction changes it.
     start_reference: u64,
     /// The reference price in force, for all else.
@@ -190,7 +220,7 @@ impl Session {
     fn fresh() -> Session {
         Session {
             phase: Phase::Fresh,
-            step: 0,
+            rows: vec![],
             start_reference: 0,
             reference: 0,
             factor: 0,
@@ -204,12 +234,13 @@ impl Session {
     }
 
     /// "Order of checks", start: 1, 3.
-    fn start(&mut self, fields: [u64; 5]) -> Result<(), Refusal> {
-        check_start(fields)?;
+    fn start(&mut self, rows: &[Row], others: [u64; 4]) -> Result<(), Refusal> {
+        check_start(rows, others)?;
         refuse(3, self.phase != Phase::Fresh)?;
         // "Phases": start leads to pre-opening.
         self.phase = Phase::PreOpening;
-        [self.step, self.start_reference, self.factor, self.threshold, self.maximum] = fields;
+        self.rows = rows.to_vec();
+        [self.start_reference, self.factor, self.threshold, self.maximum] = others;
         self.reference = self.start_reference;
         Ok(())
     }
@@ -281,9 +312,9 @@ impl Session {
         Ok(numbers)
     }
 
-    /// Refusal 5.
+    /// Refusal 5 reads the row (K6).
     fn off_step(&self, limit: u64) -> bool {
-        !limit.is_multiple_of(self.step)
+        !on_step(&self.rows, limit)
     }
 
     /// Refusal 6, by the start's reference price (K4): at either end "reaches" counts as a hit.
@@ -588,6 +619,11 @@ const DELETE_SIZES: [usize; 2] = [4, 2];
 const AUCTION_SIZES: [usize; 1] = [1];
 const QUOTE_SIZES: [usize; 5] = [2, 4, 4, 4, 4];
 
+// K6: the row count, each row, and the other fields of a start in their old order.
+const COUNT_SIZES: [usize; 1] = [2];
+const ROW_SIZES: [usize; 2] = [4, 4];
+const OTHER_SIZES: [usize; 4] = [4, 2, 2, 8];
+
 /// "Session file": a record with its fields, by its kind.
 enum Record {
     Start([u64; 5]),
@@ -595,6 +631,26 @@ enum Record {
     Delete([u64; 2]),
     Auction([u64; 1]),
     Quote([u64; 5]),
+    /// K6: a start with its rows, as many as it counts, and its other fields.
+    BandedStart(Vec<Row>, [u64; 4]),
+}
+
+/// K6: the length of a start with so many rows, 22 plus 8 per row counted.
+fn banded_length(rows: usize) -> usize {
+    22 + 8 * rows
+}
+
+/// K6: a start of kind 6 by its part. None for a length that doesn't fit the row count, and for one
+/// too short to hold it. With any count that its length fits, 0 and above 8 too, it is a record:
+/// the call on it answers 1.
+fn banded_start(part: &[u8]) -> Option<Record> {
+    let [count] = fields(part, COUNT_SIZES)?;
+    if 4 + part.len() != banded_length(count as usize) {
+        return None;
+    }
+    let (rows, others) = part.get(2..)?.split_at(8 * count as usize);
+    let rows = rows.chunks(8).map(|row| fields(row, ROW_SIZES)).collect::<Option<_>>()?;
+    Some(Record::BandedStart(rows, fields(others, OTHER_SIZES)?))
 }
 
 /// "Session file": the first record, and the file behind it.
@@ -609,6 +665,7 @@ fn first_record(file: &[u8]) -> Option<(Record, &[u8])> {
         (3, 10) => Record::Delete(fields(part, DELETE_SIZES)?),
         (4, 5) => Record::Auction(fields(part, AUCTION_SIZES)?),
         (5, 22) => Record::Quote(fields(part, QUOTE_SIZES)?),
+        (6, _) => banded_start(part)?,
         _ => return None,
     };
     Some((record, file.get(length..)?))
@@ -627,10 +684,10 @@ fn walk(file: &[u8]) -> (Vec<Record>, bool) {
 /// "Session file": what a record prints after its place.
 fn answer(session: &mut Session, record: &Record) -> String {
     match *record {
-        Record::Start(fields) => match session.start(fields) {
-            Ok(()) => "start 0\n".to_string(),
-            Err(refusal) => format!("start {refusal}\n"),
-        },
+        Record::Start(fields) => {
+            let (rows, others) = one_row(fields);
+            start_line(session.start(&rows, others))
+        }
         Record::Order(fields) => match session.order(fields) {
             Ok(number) => format!("order 0 {number}\n"),
             Err(refusal) => format!("order {refusal} 0\n"),
@@ -654,6 +711,15 @@ fn answer(session: &mut Session, record: &Record) -> String {
             Ok([bid, ask]) => format!("quote 0 {bid} {ask}\n"),
             Err(refusal) => format!("quote {refusal} 0 0\n"),
         },
+        Record::BandedStart(ref rows, others) => start_line(session.start(rows, others)),
+    }
+}
+
+/// K6: the line of a start is the same for both kinds.
+fn start_line(started: Result<(), Refusal>) -> String {
+    match started {
+        Ok(()) => "start 0\n".to_string(),
+        Err(refusal) => format!("start {refusal}\n"),
     }
 }
 

@@ -56,6 +56,27 @@ fn quote(bid: u32, ask: u32) -> Vec<u8> {
     quote_of(7, (10, bid), (10, ask))
 }
 
+/// K6: a row of the table, its lowest price and its step.
+type Band = (u32, u32);
+
+/// A start of kind 6 that counts so many rows, with these rows and the bytes of the other fields.
+fn banded_counting(count: u16, rows: &[Band], others: &[u8]) -> Vec<u8> {
+    let rows: Vec<u8> =
+        rows.iter().flat_map(|row| [row.0, row.1]).flat_map(u32::to_le_bytes).collect();
+    record(6, &[&count.to_le_bytes(), &rows, others])
+}
+
+/// A start of kind 6: its rows, and the fields that a start of kind 1 has behind the step.
+fn banded_with(rows: &[Band], reference: u32, last: (u16, u16, u64)) -> Vec<u8> {
+    let others = &start_with(1, reference, last.0, last.1, last.2)[8..];
+    banded_counting(rows.len() as u16, rows, others)
+}
+
+/// The parameters of "Session file" behind the reference price, but for a wide collar.
+fn banded(rows: &[Band], reference: u32) -> Vec<u8> {
+    banded_with(rows, reference, (999, 150, 1_000_000_000_000))
+}
+
 /// Runs the records and compares whole; the expected lines are joined with line ends.
 fn check(records: &[Vec<u8>], expected: &[&str]) {
     assert_eq!(run(&records.concat()), expected.join("\n") + "\n");
@@ -899,7 +920,7 @@ fn write_the_worked_start() {
     assert_eq!(written, [&bytes[..], &[5, 0, 4, 0, 2]].concat());
 }
 
-/// Good records of all five kinds, each field with its ends and with bytes that all differ.
+/// Good records of all six kinds, each field with its ends and with bytes that all differ.
 fn good_records() -> Vec<Vec<u8>> {
     vec![
         start(),
@@ -920,6 +941,16 @@ fn good_records() -> Vec<Vec<u8>> {
         start_with(1_000_000, 100_000_000, 999, 9_999, 1_000_000_000_000_000),
         start_with(1, 1, 2, 1, 1),
         start_with(0x0001_0203, 0x0001_0203, 0x0102, 0x0304, 0x0001_0203_0405_0607),
+        banded(&BANDS, 100_000),
+        // One row, which kind 1 could say too; and eight.
+        banded_with(&[(1, 1)], 1, (2, 1, 1)),
+        banded_with(&[(1, 1_000_000)], 100_000_000, (999, 9_999, 1_000_000_000_000_000)),
+        banded(&EIGHT, 100_000_000),
+        banded_with(
+            &[(1, 0x000A_0B0C), (0x0102_0304, 0x0005_0607)],
+            0x0005_0607 * 52,
+            (0x0102, 0x0304, 0x0001_0203_0405_0607),
+        ),
     ]
 }
 
@@ -972,6 +1003,21 @@ fn rewrite_up_to_a_bad_field() {
         quote_of(7, (1, 100), (10_000_001, 200)),
         quote_of(7, (1, 100), (1, 0)),
         quote_of(7, (1, 100), (1, 100_000_001)),
+        banded(&[], 100_000),
+        banded(&[(2, 1)], 100_000),
+        banded(&[(1, 0)], 100_000),
+        banded(&[(1, 1), (1, 1)], 100_000),
+        banded(&[(1, 1), (100_000_001, 1)], 100_000),
+        banded(&[(1, 1), (100_000_000, 1_000_001)], 100_000),
+        // The reference price is no multiple of the step of its row.
+        banded(&[(1, 100), (100_000, 3_000)], 100_000),
+        banded(&[(1, 1)], 0),
+        banded(&[(1, 1)], 100_000_001),
+        banded_with(&[(1, 1)], 100_000, (1, 150, good)),
+        banded_with(&[(1, 1)], 100_000, (9, 10_000, good)),
+        banded_with(&[(1, 1)], 100_000, (9, 150, good + 1)),
+        banded(&rising(9), 100_000),
+        banded(&rising(8_189), 100_000),
     ] {
         // It is the third record, and the call on it answers 1.
         let file = [start(), day(BUY, 1, UNLIMITED), bad, auction(OPENING)];
@@ -992,6 +1038,9 @@ fn rewrite_up_to_a_fault() {
         record(4, &[&[1, 1]]),
         record(5, &[&[1; 17]]),
         record(5, &[&[1; 19]]),
+        record(6, &[&[1, 0]]),
+        banded_counting(2, &[(1, 1)], &start()[8..]),
+        banded_counting(65_535, &rising(9), &start()[8..]),
         vec![0, 0, 1, 0],
         vec![24, 0, 2, 0],
         vec![255, 255, 9, 0],
@@ -2354,4 +2403,877 @@ fn square_of_any_records() {
         assert!(clearing(&file).ends_with(&(end + &expected + &format!("total {total}\n"))));
     }
     assert!(met_16 > 100 && met_cells > 1_000, "{met_16} {met_cells}");
+}
+
+/// K6: a table whose edges are unlike each other. Row 1 ends at 999, which is 37 × 27; row 2 begins
+/// on its step and ends off it, at 20,049; row 3 begins off its step, and ends off it at 99,999; row
+/// 4 does as row 2; and the step of row 5 is the smallest.
+const BANDS: [Band; 5] = [(1, 27), (1_000, 100), (20_050, 60), (100_000, 1_000), (500_000, 1)];
+
+/// As many rows as there may be, with the highest lowest price and the highest step. Rows 1, 2, 3,
+/// 7 and 8 hold one price each.
+const EIGHT: [Band; 8] = [
+    (1, 1),
+    (2, 2),
+    (3, 1),
+    (4, 1_000_000),
+    (1_000_001, 7),
+    (50_000_000, 12),
+    (99_999_999, 5),
+    (100_000_000, 1_000_000),
+];
+
+/// So many rows from 1 up, of step 1.
+fn rising(rows: u32) -> Vec<Band> {
+    (1..=rows).map(|lowest| (lowest, 1)).collect()
+}
+
+/// The bytes, by hand: length 22 and twice 8, kind, count, two rows, and the worked start's rest.
+#[test]
+fn banded_start_bytes() {
+    let bytes: [u8; 38] = [
+        0x26, 0x00, 0x06, 0x00, 0x02, 0x00, 0x01, 0x00, 0x00, 0x00, 0x64, 0x00, 0x00, 0x00, 0x04,
+        0x03, 0x02, 0x01, 0x0C, 0x0B, 0x0A, 0x00, 0xA0, 0x86, 0x01, 0x00, 0x09, 0x00, 0x96, 0x00,
+        0x00, 0x10, 0xA5, 0xD4, 0xE8, 0x00, 0x00, 0x00,
+    ];
+    let rows = [(1, 100), (0x0102_0304, 0x000A_0B0C)];
+    assert_eq!(banded_with(&rows, 100_000, (9, 150, 1_000_000_000_000)), bytes);
+    let Some((Record::BandedStart(rows, others), [])) = first_record(&bytes) else { panic!() };
+    assert_eq!(rows, [[1, 100], [0x0102_0304, 0x000A_0B0C]]);
+    assert_eq!(others, [100_000, 9, 150, 1_000_000_000_000]);
+    let mut written = Vec::new();
+    assert_eq!(write(&Record::BandedStart(rows, others), &mut written), Ok(()));
+    assert_eq!(written, bytes);
+}
+
+/// K6: written whole or not at all, also with more rows than a count can say.
+#[test]
+fn write_a_banded_start() {
+    let others = [100_000, 9, 150, 1_000_000_000_000];
+    let mut written = auction(OPENING);
+    for rows in [vec![], vec![[2, 1]], vec![[1, 0]], vec![[1, 1]; 2], vec![[1, 1]; 70_000]] {
+        assert_eq!(write(&Record::BandedStart(rows, others), &mut written), Err(1));
+    }
+    let nine = (1..=9).map(|lowest| [lowest, 1]).collect();
+    assert_eq!(write(&Record::BandedStart(nine, others), &mut written), Err(1));
+    let off = Record::BandedStart(vec![[1, 100], [2, 300]], others);
+    assert_eq!(write(&off, &mut written), Err(1));
+    assert_eq!(written, auction(OPENING));
+    // One row: kind 6, where kind 1 says the same.
+    let one = Record::BandedStart(vec![[1, 100]], others);
+    assert_eq!(write(&one, &mut written), Ok(()));
+    let bytes = [&[30, 0, 6, 0, 1, 0, 1, 0, 0, 0][..], &start()[4..]].concat();
+    assert_eq!(written, [auction(OPENING), bytes].concat());
+}
+
+/// Runs the starts in one session and compares the answers.
+fn check_starts(starts: &[(Vec<u8>, u64)]) {
+    let lines = (1..).zip(starts).map(|(place, (_, answer))| format!("{place} start {answer}"));
+    let lines: Vec<String> = lines.chain([format!("end {}", starts.len())]).collect();
+    let records: Vec<Vec<u8>> = starts.iter().map(|(start, _)| start.clone()).collect();
+    check(&records, &lines.iter().map(String::as_str).collect::<Vec<_>>());
+}
+
+/// K6: 1 for a bad table, and the session stays fresh: the good one behind them all is taken.
+#[test]
+fn bad_tables() {
+    let top = u32::MAX;
+    let bad: [&[Band]; 23] = [
+        // The first row begins at 2, at 0 or elsewhere.
+        &[(2, 1)],
+        &[(2, 1), (3, 1)],
+        &[(0, 1)],
+        &[(0, 1), (1, 1)],
+        &[(100_000, 1)],
+        &[(100_000_001, 1)],
+        &[(top, 1)],
+        // Equal and falling lowest prices.
+        &[(1, 1), (1, 1)],
+        &[(1, 1), (5, 1), (5, 1)],
+        &[(1, 1), (5, 1), (4, 1)],
+        &[(1, 1), (5, 1), (1, 1)],
+        &[(2, 1), (1, 1)],
+        &[(1, 1), (3, 1), (2, 1), (4, 1)],
+        &[(1, 1), (100_000_000, 1), (2, 1)],
+        // A lowest price that is none.
+        &[(1, 1), (0, 1)],
+        &[(1, 1), (100_000_001, 1)],
+        &[(1, 1), (2, 1), (top, 1)],
+        &[(1, 1), (100_000_001, 1), (100_000_002, 1)],
+        // A step that is none.
+        &[(1, 0)],
+        &[(1, 1_000_001)],
+        &[(1, top)],
+        &[(1, 1), (2, 0)],
+        &[(1, 1), (2, 1_000_001)],
+    ];
+    let mut starts: Vec<_> = bad.iter().map(|rows| (banded(rows, 100_000), 1)).collect();
+    starts.extend([(banded(&[(1, 1)], 100_000), 0), (banded(&[(1, 1)], 100_000), 3)]);
+    check_starts(&starts);
+}
+
+/// K6: the same in every row of every table, each row spoilt by itself. The reference price, in the
+/// first row or the last, has nothing to do with it.
+#[test]
+fn bad_row_in_any_place() {
+    let mut starts = vec![];
+    for count in 1..=8 {
+        for at in 0..count as usize {
+            for spoilt in [(0, 1), (100_000_001, 1), (u32::MAX, 1)] {
+                let mut rows = rising(count);
+                rows[at] = spoilt;
+                starts.extend([(banded(&rows, 1), 1), (banded(&rows, 100_000_000), 1)]);
+            }
+            for step in [0, 1_000_001, u32::MAX] {
+                let mut rows = rising(count);
+                rows[at].1 = step;
+                starts.extend([(banded(&rows, 1), 1), (banded(&rows, 100_000_000), 1)]);
+            }
+            // Equal to the row before, and two rows that have changed places.
+            if at > 0 {
+                let mut rows = rising(count);
+                rows[at].0 = rows[at - 1].0;
+                starts.extend([(banded(&rows, 1), 1), (banded(&rows, 100_000_000), 1)]);
+                let mut rows = rising(count);
+                rows.swap(at - 1, at);
+                starts.extend([(banded(&rows, 1), 1), (banded(&rows, 100_000_000), 1)]);
+            }
+        }
+    }
+    starts.push((banded(&rising(8), 1), 0));
+    check_starts(&starts);
+}
+
+/// K6: the ends of each range are in it, and steps needn't rise.
+#[test]
+fn good_tables() {
+    for rows in [
+        &[(1, 1)][..],
+        &[(1, 1_000_000)],
+        &[(1, 1), (2, 1)],
+        &[(1, 1), (100_000_000, 1_000_000)],
+        &[(1, 1_000_000), (2, 1), (3, 1_000_000)],
+        &BANDS,
+        &EIGHT,
+        &rising(7),
+        &rising(8),
+    ] {
+        check_starts(&[(banded(rows, 100_000_000), 0)]);
+    }
+}
+
+/// K6: a count that is not 1 to 8 is answered 1, and the walk goes on. The longest such record has
+/// 8,189 rows and 65,534 bytes.
+#[test]
+fn row_counts() {
+    assert_eq!(banded(&rising(8_189), 1).len(), 65_534);
+    let mut starts = vec![];
+    for count in [0, 9, 10, 16, 256, 8_189] {
+        starts.push((banded(&rising(count), 100_000), 1));
+    }
+    check_starts(&starts);
+    for count in 1..=8 {
+        starts.push((banded(&rising(count), 100_000), 0));
+        check_starts(&starts);
+        starts.pop();
+    }
+    // 1 goes before 3.
+    starts.insert(0, (start(), 0));
+    starts.push((banded(&rising(8), 100_000), 3));
+    check_starts(&starts);
+}
+
+/// A record that ends the walk, behind a start, whole and with more behind it.
+fn check_fault(bad: &[u8]) {
+    let (bad, lines) = (bad.to_vec(), ["1 start 0", "2 fault 1", "end 1"]);
+    check(&[start(), bad.clone()], &lines);
+    check(&[start(), bad.clone(), auction(OPENING)], &lines);
+    check(&[start(), bad, banded(&EIGHT, 100_000_000)], &lines);
+}
+
+/// K6: a count for which no length has room. With these lengths the sum's low 16 bits would fit.
+#[test]
+fn row_counts_without_room() {
+    for (count, bytes) in [(65_535, 14), (8_192, 22), (8_193, 30), (8_194, 38), (8_190, 6)] {
+        let mut part = vec![0; bytes - 4];
+        part[..2].copy_from_slice(&u16::to_le_bytes(count));
+        let bad = record(6, &[&part]);
+        assert_eq!((bad.len(), (22 + 8 * usize::from(count)) % 65_536), (bytes, bytes));
+        check_fault(&bad);
+    }
+    for count in [8_190, 8_191, 32_768, 65_535] {
+        check_fault(&banded_counting(count, &[], &start()[8..]));
+        check_fault(&banded_counting(count, &rising(8), &start()[8..]));
+        check_fault(&banded_counting(count, &rising(8_189), &start()[8..]));
+        // The longest record there can be.
+        let longest = [count.to_le_bytes().to_vec(), vec![0; 65_529]].concat();
+        check_fault(&record(6, &[&longest]));
+    }
+}
+
+/// K6: any length that doesn't fit the count is a fault, one too short to hold its count too.
+#[test]
+fn lengths_that_do_not_fit() {
+    for part in [&[][..], &[0], &[1], &[0, 0], &[1, 0], &[8, 0], &[255, 255]] {
+        check_fault(&record(6, &[part]));
+    }
+    // Lengths below 4, and 4 and 5 with bytes behind them that would make a good record of it.
+    let good = banded(&[(1, 1)], 100_000);
+    for length in [0, 1, 2, 3, 4, 5, 6] {
+        check_fault(&[&[length][..], &good[1..]].concat());
+    }
+    for count in 0..=10 {
+        let good = banded(&rising(count.into()), 100_000);
+        for rows in (0..=10).filter(|rows| *rows != u32::from(count)) {
+            check_fault(&banded_counting(count, &rising(rows), &start()[8..]));
+        }
+        // Bytes more or fewer, where the record stays whole.
+        for more in 1..=9 {
+            check_fault(&record(6, &[&good[4..], &vec![0; more]]));
+        }
+        for fewer in 1..=good.len() - 4 {
+            check_fault(&record(6, &[&good[4..good.len() - fewer]]));
+        }
+    }
+    // The count's first byte alone would fit: 257 rows are counted, and there is one.
+    check_fault(&banded_counting(257, &[(1, 1)], &start()[8..]));
+    // The length of the other start, and of a quote: 24 fits no count, 22 fits none but 0.
+    check_fault(&record(6, &[&start()[4..]]));
+    check_fault(&record(6, &[&quote(99_800, 100_200)[4..]]));
+}
+
+/// A table cut anywhere is a fault, also where the whole record would be answered 1.
+#[test]
+fn cut_tables() {
+    for rows in [&[(1, 1)][..], &BANDS, &EIGHT, &rising(9), &[], &[(2, 1)], &[(1, 0)]] {
+        let whole = banded(rows, 100_000);
+        for cut in 1..whole.len() {
+            check(&[whole[..cut].to_vec()], &["1 fault 1", "end 0"]);
+            check(&[start(), whole[..cut].to_vec()], &["1 start 0", "2 fault 1", "end 1"]);
+            assert_eq!(rewrite(&whole[..cut]), []);
+            let lines = clearing(&whole[..cut]);
+            assert_eq!(lines, "1 fault 1\nend 0\ntotal 0\n");
+            assert_eq!(looks(&whole[..cut]), format!("look 1\n{FRESH}end 0\n"));
+        }
+    }
+    let longest = banded(&rising(8_189), 100_000);
+    for cut in [1, 5, 6, 22, 94, 65_518, 65_533] {
+        check(&[longest[..cut].to_vec()], &["1 fault 1", "end 0"]);
+    }
+    check(&[longest], &["1 start 1", "end 1"]);
+}
+
+/// K6: the reference price is a multiple of the step of its own row, whatever the others' are.
+#[test]
+fn reference_in_its_row() {
+    check_starts(&[
+        // On the first row's step and off its own: 100,000 is 33 × 3,000 and 1,000.
+        (banded(&[(1, 100), (50_000, 3_000)], 100_000), 1),
+        (banded(&[(1, 100), (100_000, 3_000)], 100_000), 1),
+        (banded(&[(1, 1), (99_999, 100_001)], 100_000), 1),
+        // On the next row's step and off its own.
+        (banded(&[(1, 3_000), (100_001, 100)], 100_000), 1),
+        (banded(&[(1, 1), (2, 3_000), (100_001, 1)], 100_000), 1),
+        // At the edges of BANDS.
+        (banded(&BANDS, 1_026), 1),
+        (banded(&BANDS, 20_040), 1),
+        (banded(&BANDS, 20_050), 1),
+        (banded(&BANDS, 99_999), 1),
+        (banded(&BANDS, 100_020), 1),
+        (banded(&BANDS, 499_999), 1),
+        // No price.
+        (banded(&BANDS, 0), 1),
+        (banded(&BANDS, 100_000_001), 1),
+        (banded(&BANDS, u32::MAX), 1),
+    ]);
+    for (rows, reference) in [
+        (&[(1, 100), (100_001, 3_000)][..], 100_000),
+        (&[(1, 3_000), (50_000, 100)], 100_000),
+        (&[(1, 3_000), (100_000, 100)], 100_000),
+        (&[(1, 1), (2, 3_000), (100_000, 100_000), (100_001, 1)], 100_000),
+        (&BANDS, 27),
+        (&BANDS, 999),
+        (&BANDS, 1_000),
+        (&BANDS, 20_000),
+        (&BANDS, 20_100),
+        (&BANDS, 20_160),
+        (&BANDS, 99_960),
+        (&BANDS, 100_000),
+        (&BANDS, 499_000),
+        (&BANDS, 500_000),
+        (&BANDS, 500_001),
+        (&BANDS, 100_000_000),
+    ] {
+        check_starts(&[(banded(rows, reference), 0)]);
+    }
+}
+
+/// K6: the other fields have their old bounds.
+#[test]
+fn banded_start_fields() {
+    let good = 1_000_000_000_000_000;
+    let start = |last| banded_with(&BANDS, 100_000, last);
+    check_starts(&[
+        (start((1, 150, good)), 1),
+        (start((1_000, 150, good)), 1),
+        (start((9, 0, good)), 1),
+        (start((9, 10_000, good)), 1),
+        (start((9, 150, 0)), 1),
+        (start((9, 150, good + 1)), 1),
+        (start((9, 150, u64::MAX)), 1),
+        (start((999, 9_999, good)), 0),
+        (start((999, 9_999, good)), 3),
+        (start((1, 150, good)), 1),
+    ]);
+    check_starts(&[(start((2, 1, 1)), 0)]);
+}
+
+/// Limits at, just below and just above the edges of BANDS, and what 5 and then 6 answer. The
+/// reference price is 100,000: 6 passes 101 to 99,899,999.
+const LIMITS: [(u32, u64); 45] = [
+    (1, 5),
+    (27, 6),
+    (81, 6),
+    (100, 5),
+    (108, 0),
+    // Row 1 ends.
+    (972, 0),
+    (998, 5),
+    (999, 0),
+    (1_000, 0),
+    (1_001, 5),
+    // On row 1's step, 38 × 27 and 100 × 27, and the second on its own row's too.
+    (1_026, 5),
+    (2_700, 0),
+    (1_100, 0),
+    // Row 2 ends; 20,040 is 334 × 60.
+    (20_000, 0),
+    (20_040, 5),
+    (20_048, 5),
+    (20_049, 5),
+    (20_050, 5),
+    (20_051, 5),
+    (20_099, 5),
+    (20_100, 0),
+    (20_101, 5),
+    (20_160, 0),
+    // On row 2's step alone.
+    (20_200, 5),
+    // Row 3 ends; 99,960 is 1,666 × 60 and 100,020 is 1,667 × 60.
+    (99_900, 0),
+    (99_960, 0),
+    (99_998, 5),
+    (99_999, 5),
+    (100_000, 0),
+    (100_001, 5),
+    (100_020, 5),
+    (100_100, 5),
+    (101_000, 0),
+    // Row 4 ends.
+    (498_999, 5),
+    (499_000, 0),
+    (499_999, 5),
+    (500_000, 0),
+    (500_001, 0),
+    (500_002, 0),
+    (501_000, 0),
+    (98_765_431, 0),
+    (99_899_999, 0),
+    (99_900_000, 6),
+    (99_999_999, 6),
+    (100_000_000, 6),
+];
+
+#[test]
+fn order_limits_in_their_rows() {
+    for (side, validity) in [(BUY, 3), (SELL, 3), (BUY, 1), (SELL, 2), (BUY, 4)] {
+        for (limit, answer) in LIMITS {
+            let records = [banded(&BANDS, 100_000), order_of(7, side, validity, 1, limit)];
+            let line = format!("2 order {answer} {}", u64::from(answer == 0));
+            check(&records, &["1 start 0", &line, "end 2"]);
+        }
+    }
+    // One behind the other, in day: a refused one uses no number.
+    let mut records = vec![banded(&BANDS, 100_000), auction(OPENING)];
+    let (mut lines, mut given) = (vec!["1 start 0".into(), "2 auction 0 2 0 0 0".into()], 0);
+    for (place, (limit, answer)) in (3..).zip(LIMITS) {
+        records.push(day(BUY, 1, limit));
+        given += u64::from(answer == 0);
+        let number = if answer == 0 { given } else { 0 };
+        lines.push(format!("{place} order {answer} {number}"));
+    }
+    lines.push(format!("end {}", LIMITS.len() + 2));
+    check(&records, &lines.iter().map(String::as_str).collect::<Vec<_>>());
+    // Unlimited skips it, though 0 falls in no row.
+    check(
+        &[banded(&BANDS, 100_000), day(BUY, 1, UNLIMITED)],
+        &["1 start 0", "2 order 0 1", "end 2"],
+    );
+}
+
+/// Each side of a quote, beside one that passes: a bid of 108, an ask of 99,899,999. A bid above
+/// that ask, and an ask below that bid, would be 13.
+#[test]
+fn quote_limits_in_their_rows() {
+    for (limit, answer) in LIMITS {
+        let line = match answer {
+            0 => "2 quote 0 1 2".to_string(),
+            _ => format!("2 quote {answer} 0 0"),
+        };
+        let start = banded(&BANDS, 100_000);
+        if limit < 99_899_999 {
+            let records = [start.clone(), quote(limit, 99_899_999)];
+            check(&records, &["1 start 0", &line, "end 2"]);
+        }
+        if limit > 108 {
+            check(&[start, quote(108, limit)], &["1 start 0", &line, "end 2"]);
+        }
+    }
+}
+
+/// K6: both sides in one row or in two, and the order of checks: each on the bid and then on the
+/// ask, 13 and 4 before 5 and 6 behind it.
+#[test]
+fn quote_sides_in_their_rows() {
+    check(
+        &[
+            quote(1_001, 1_000),
+            quote(1_001, 20_050),
+            banded(&BANDS, 100_000),
+            quote(999, 1_000),
+            quote(1_000, 1_026),
+            quote(972, 999),
+            quote(999, 1_026),
+            quote(1_026, 20_100),
+            quote(20_050, 20_100),
+            quote(20_000, 20_100),
+            quote(20_000, 20_040),
+            quote(20_040, 20_100),
+            quote(99_960, 100_000),
+            quote(99_999, 100_000),
+            quote(100_000, 100_020),
+            quote(499_000, 500_001),
+            quote(499_999, 500_001),
+            quote(500_001, 500_002),
+            // 13 before 5.
+            quote(1_001, 1_001),
+            quote(20_050, 999),
+            // 5 on the ask before 6 on the bid; then 6, and 7 and 8 behind it.
+            quote(27, 1_001),
+            quote(27, 1_000),
+            quote(999, 99_900_000),
+            quote_of(7, (1, 999), (2_000_000, 500_000)),
+            quote_of(7, (10_000_000, 999), (1, 1_000)),
+            // Old quotes were overwritten by the accepted ones alone.
+            delete(13, 7),
+            delete(14, 7),
+            auction(OPENING),
+            auction(CLOSING),
+            quote(1_001, 20_050),
+        ],
+        &[
+            "1 quote 13 0 0",
+            "2 quote 2 0 0",
+            "3 start 0",
+            "4 quote 0 1 2",
+            "5 quote 5 0 0",
+            "6 quote 0 3 4",
+            "7 quote 5 0 0",
+            "8 quote 5 0 0",
+            "9 quote 5 0 0",
+            "10 quote 0 5 6",
+            "11 quote 5 0 0",
+            "12 quote 5 0 0",
+            "13 quote 0 7 8",
+            "14 quote 5 0 0",
+            "15 quote 5 0 0",
+            "16 quote 0 9 10",
+            "17 quote 5 0 0",
+            "18 quote 0 11 12",
+            "19 quote 13 0 0",
+            "20 quote 13 0 0",
+            "21 quote 5 0 0",
+            "22 quote 6 0 0",
+            "23 quote 6 0 0",
+            "24 quote 7 0 0",
+            "25 quote 8 0 0",
+            "26 delete 11",
+            "27 delete 11",
+            "28 auction 0 2 0 0 0",
+            "29 auction 0 2 0 0 0",
+            "30 quote 4 0 0",
+            "end 30",
+        ],
+    );
+}
+
+/// A table of eight rows, at every edge. 999,999 falls in row 4, where only 1,000,000 is a limit.
+#[test]
+fn eight_rows() {
+    let limits = [
+        // Rows 1 to 4 begin at 1 to 4.
+        (1, 0),
+        (2, 0),
+        (3, 0),
+        (4, 5),
+        (5, 5),
+        (999_999, 5),
+        (1_000_000, 0),
+        // Row 5: 142,858 × 7 is 1,000,006.
+        (1_000_001, 5),
+        (1_000_005, 5),
+        (1_000_006, 0),
+        (2_000_000, 5),
+        // Row 5 ends: 7,142,857 × 7 is 49,999,999. Row 6: 4,166,667 × 12 is 50,000,004.
+        (49_999_999, 0),
+        (50_000_000, 5),
+        (50_000_004, 0),
+        // Row 6 ends: 8,333,333 × 12 is 99,999,996. Row 7 holds one price, which is no limit.
+        (99_999_996, 0),
+        (99_999_998, 5),
+        (99_999_999, 5),
+        (100_000_000, 0),
+    ];
+    let mut accepted = 0;
+    for (limit, answer) in limits {
+        // 6 passes 1 to 998 by the reference price 1, and all above 100,100 by 100,000,000.
+        let reference = if limit < 998 { 1 } else { 100_000_000 };
+        let start = banded_with(&EIGHT, reference, (999, 150, 1_000_000_000_000));
+        let line = format!("2 order {answer} {}", u64::from(answer == 0));
+        check(&[start, day(SELL, 1, limit)], &["1 start 0", &line, "end 2"]);
+        accepted += u32::from(answer == 0);
+    }
+    assert_eq!(accepted, 9);
+}
+
+/// K6: a row in which no price is a multiple of its step. 2 to 99 fall in the second row.
+#[test]
+fn row_without_a_limit() {
+    let start = banded_with(&[(1, 1), (2, 100), (100, 30)], 120, (999, 150, 1_000_000_000_000));
+    for (limit, answer) in [(1, 0), (2, 5), (60, 5), (90, 5), (99, 5), (100, 5), (120, 0)] {
+        let line = format!("2 order {answer} {}", u64::from(answer == 0));
+        check(&[start.clone(), day(BUY, 1, limit)], &["1 start 0", &line, "end 2"]);
+    }
+}
+
+/// K6: an auction's price may lie in any band, and becomes the reference price in force. Here it is
+/// off the step of the row of the start's.
+#[test]
+fn auction_price_in_another_band() {
+    check(
+        &[
+            banded(&BANDS, 100_000),
+            // 40 × 10,000 is below 150 × 100,000: no delay.
+            day(BUY, 10, 99_960),
+            day(SELL, 10, 99_960),
+            auction(OPENING),
+            // All three candidates are kept, and 99,960 is the reference price in force.
+            day(BUY, 20, 500_001),
+            day(SELL, 20, 999),
+            auction(CLOSING),
+        ],
+        &[
+            "1 start 0",
+            "2 order 0 1",
+            "3 order 0 2",
+            "4 auction 0 1 99960 10 1",
+            "trade 1 2 10",
+            "5 order 0 3",
+            "6 order 0 4",
+            "7 auction 0 1 99960 20 1",
+            "trade 3 4 20",
+            "end 7",
+        ],
+    );
+    // Far away and so delayed; an unlimited pair trades at the same price at the closing.
+    for (price, unlimited) in [(999, 7), (1_100, 8), (20_160, 9), (500_001, 10)] {
+        let delayed = format!("4 auction 0 4 {price} 10 0");
+        let opened = format!("5 auction 0 1 {price} 10 1");
+        let closed = format!("8 auction 0 1 {price} {unlimited} 1");
+        let trade = format!("trade 3 4 {unlimited}");
+        check(
+            &[
+                banded(&BANDS, 100_000),
+                day(BUY, 10, price),
+                day(SELL, 10, price),
+                auction(OPENING),
+                auction(OPENING),
+                day(BUY, unlimited, UNLIMITED),
+                day(SELL, unlimited, UNLIMITED),
+                auction(CLOSING),
+            ],
+            &[
+                "1 start 0",
+                "2 order 0 1",
+                "3 order 0 2",
+                &delayed,
+                &opened,
+                "trade 1 2 10",
+                "6 order 0 3",
+                "7 order 0 4",
+                &closed,
+                &trade,
+                "end 8",
+            ],
+        );
+    }
+}
+
+/// K6: the price chain over bands. The limits lie in rows 5 and 1, the reference price in row 4.
+#[test]
+fn price_chain_over_bands() {
+    let delayed_at = |price: u32, quantity: u32, buy: u32, sell: u32| {
+        let orders = [day(BUY, buy, 500_001), day(SELL, sell, 999)];
+        let line = format!("auction 0 4 {price} {quantity} 0");
+        check_opening_after(banded(&BANDS, 100_000), &orders, &[&line]);
+    };
+    // Demand to spare at all: the highest. Supply to spare at all: the lowest.
+    delayed_at(500_001, 60, 100, 60);
+    delayed_at(999, 60, 60, 100);
+    // As much on both sides: the reference price.
+    let orders = [day(BUY, 100, 500_001), day(SELL, 100, 999)];
+    let lines = ["auction 0 1 100000 100 1", "trade 1 2 100"];
+    check_opening_after(banded(&BANDS, 100_000), &orders, &lines);
+    // It isn't kept: nearest to 500,001 is 101,000, nearest to 999 is 20,160.
+    let orders = [day(BUY, 100, 101_000), day(SELL, 100, 20_160)];
+    for (reference, price) in [(500_001, 101_000), (999, 20_160)] {
+        let line = format!("auction 0 4 {price} 100 0");
+        check_opening_after(banded(&BANDS, reference), &orders, &[&line]);
+    }
+}
+
+/// K6 and K4: after an opening in another band limits go by their own rows, and 6 and 8 by the
+/// start's reference price, 100,000.
+#[test]
+fn entries_after_an_opening_in_another_band() {
+    let mut records = vec![
+        banded(&BANDS, 100_000),
+        day(BUY, 10, 999),
+        day(SELL, 10, 999),
+        auction(OPENING),
+        auction(OPENING),
+    ];
+    let opening = [
+        "1 start 0",
+        "2 order 0 1",
+        "3 order 0 2",
+        "4 auction 0 4 999 10 0",
+        "5 auction 0 1 999 10 1",
+        "trade 1 2 10\n",
+    ];
+    let (mut lines, mut given) = (opening.join("\n"), 2);
+    for (place, (limit, answer)) in (6..).zip(LIMITS) {
+        records.push(day(SELL, 1, limit));
+        given += u64::from(answer == 0);
+        let number = if answer == 0 { given } else { 0 };
+        lines += &format!("{place} order {answer} {number}\n");
+    }
+    records.extend([day(SELL, 10_000_000, 1_000), day(SELL, 10_000_000, 1_026)]);
+    let place = 6 + LIMITS.len();
+    lines += &format!("{place} order 8 0\n{} order 5 0\nend {}\n", place + 1, place + 1);
+    assert_eq!(run(&records.concat()), lines);
+}
+
+/// K6: a start that is refused, by 3 or by 1, moves no table, whichever of the kinds it is.
+#[test]
+fn refused_start_moves_no_table() {
+    let one = start_with(100, 100_000, 999, 150, 1_000_000_000_000);
+    let (many, bad) = (banded(&BANDS, 100_000), banded(&[(1, 1), (2, 1), (2, 1)], 100_000));
+    let orders = [day(BUY, 1, 999), day(BUY, 1, 20_160), day(BUY, 1, 20_200), day(BUY, 1, 100_100)];
+    let by_one = ["4 order 5 0", "5 order 5 0", "6 order 0 1", "7 order 0 2", "end 7"];
+    let by_many = ["4 order 0 1", "5 order 0 2", "6 order 5 0", "7 order 5 0", "end 7"];
+    for (first, lines) in [(&one, by_one), (&many, by_many)] {
+        // Each is the last start before the orders. The table of step 1 would take all four.
+        for (refused, answer) in [
+            (&one, "3 start 3"),
+            (&many, "3 start 3"),
+            (&banded(&[(1, 1)], 100_000), "3 start 3"),
+            (&bad, "3 start 1"),
+        ] {
+            let starts = [bad.clone(), first.clone(), refused.clone()];
+            let answers = ["1 start 1", "2 start 0", answer];
+            check(&[&starts[..], &orders].concat(), &[&answers[..], &lines].concat());
+        }
+    }
+}
+
+/// The worked example of 01 by its table: 100 below 100,300 and 200 from there, where 100,400 lies.
+#[test]
+fn worked_example_by_bands() {
+    let rows = [(1, 100), (100_300, 200)];
+    let records = [
+        banded_with(&rows, 100_000, (9, 150, 1_000_000_000_000)),
+        day(BUY, 50, 100_200),
+        day(BUY, 50, 100_400),
+        day(BUY, 50, 100_200),
+        day(SELL, 80, 100_200),
+        day(BUY, 50, 100_300),
+        auction(OPENING),
+    ];
+    let lines = [
+        "1 start 0",
+        "2 order 0 1",
+        "3 order 0 2",
+        "4 order 0 3",
+        "5 order 0 4",
+        "6 order 5 0",
+        "7 auction 0 1 100200 80 2",
+        "trade 2 4 50",
+        "trade 1 4 30",
+        "end 7",
+    ];
+    check(&records, &lines);
+    check_clearing(&records, &[&lines[..], &["owes 7 7 80", "total 80"]].concat());
+    assert_eq!(rewrite(&records.concat()), records.concat());
+    // A look before the auction foresees it.
+    let looked = looks(&records.concat());
+    assert!(looked.starts_with("look 7\ntheoretical 0 1 0 0 0 0\ntheoretical 1 0 1 100200 80 2\n"));
+    assert!(looked.contains("\nranked 1 1 0 3 2 1 3\n") && looked.ends_with("\nend 7\n"));
+}
+
+/// K6: kind 1 means one row. Starts of both kinds, good and bad, print the same lines in all of the
+/// sessions; only what is written anew keeps the kind.
+#[test]
+fn kind_1_means_one_row() {
+    let good = 1_000_000_000_000;
+    let mut met = vec![];
+    for (step, reference, last) in [
+        (100, 100_000, (9, 150, good)),
+        (1, 100_000, (9, 150, good)),
+        (50, 100_000, (2, 1, good)),
+        (1_000, 100_000, (999, 9_999, 1_000_000_000_000_000)),
+        (1_000_000, 1_000_000, (999, 150, good)),
+        (0, 100_000, (9, 150, good)),
+        (1_000_001, 2_000_002, (9, 150, good)),
+        (u32::MAX, 100_000, (9, 150, good)),
+        (100, 100_050, (9, 150, good)),
+        (100, 0, (9, 150, good)),
+        (1, 100_000_001, (9, 150, good)),
+        (100, 100_000, (1, 150, good)),
+        (100, 100_000, (9, 10_000, good)),
+        (100, 100_000, (9, 150, 0)),
+    ] {
+        let kind_1 = start_with(step, reference, last.0, last.1, last.2);
+        let kind_6 = banded_with(&[(1, step)], reference, last);
+        let rest = [
+            day(BUY, 30, 100_000),
+            day(BUY, 20, 100_050),
+            day(SELL, 40, 99_999),
+            day(SELL, 10, 100_001),
+            quote(99_900, 100_100),
+            quote(99_950, 101_000),
+            order_of(8, SELL, 2, 5, UNLIMITED),
+            start(),
+            auction(OPENING),
+            auction(OPENING),
+            order_of(9, BUY, 3, 60, 1_000_000),
+            auction(CLOSING),
+        ]
+        .concat();
+        let (one, other) = ([&kind_1[..], &rest].concat(), [&kind_6[..], &rest].concat());
+        assert_eq!(run(&one), run(&other));
+        assert_eq!(looks(&one), looks(&other));
+        assert_eq!(clearing(&one), clearing(&other));
+        let whole = run(&one).starts_with("1 start 0\n");
+        let written = if whole { [one.clone(), other.clone()] } else { [vec![], vec![]] };
+        assert_eq!([rewrite(&one), rewrite(&other)], written);
+        met.push(u8::from(whole));
+        // Cut anywhere behind the start, too.
+        for cut in 1..rest.len() {
+            let end = &rest[..cut];
+            let (one, other) = ([&kind_1[..], end].concat(), [&kind_6[..], end].concat());
+            assert_eq!(run(&one), run(&other));
+        }
+    }
+    assert_eq!(met, [1, 1, 1, 1, 1, 0, 0, 0, 0, 0, 0, 0, 0, 0]);
+}
+
+/// K6's rule for any table: a limit is refused by 5 exactly when it is no multiple of the step of
+/// the row that holds it, the one from whose lowest price to the next row's it lies.
+#[test]
+fn limits_of_any_table() {
+    let mut seed: u64 = 6;
+    let mut draw = move |below: u64| {
+        seed = seed.wrapping_mul(6364136223846793005).wrapping_add(1442695040888963407);
+        (seed >> 33) % below
+    };
+    let (mut met_0, mut met_5) = (0, 0);
+    for _ in 0..2_000 {
+        let mut rows: Vec<Band> = vec![(1, 1 + draw(12) as u32)];
+        for _ in 0..draw(8) {
+            let lowest = rows[rows.len() - 1].0 + 1 + draw(300) as u32;
+            rows.push((lowest, 1 + draw(12) as u32));
+        }
+        // Which steps a price has by its row: at most one.
+        let steps = |price: u32| -> Vec<u32> {
+            let next = rows.iter().skip(1).map(|row| row.0).chain([u32::MAX]);
+            let held = rows.iter().zip(next).filter(|(row, next)| (row.0..*next).contains(&price));
+            held.map(|(row, _)| row.1).collect()
+        };
+        let reference = 1 + draw(600) as u32;
+        let mut file = banded(&rows, reference);
+        let started = reference.is_multiple_of(steps(reference)[0]);
+        let mut limits = vec![];
+        for _ in 0..draw(40) {
+            let near = rows[draw(rows.len() as u64) as usize].0 + draw(30) as u32;
+            limits.push((near + 1).saturating_sub(draw(30) as u32).max(1));
+        }
+        for &limit in &limits {
+            file.extend(day(BUY, 1, limit));
+        }
+        let lines = run(&file);
+        let answers = lines.lines().map(|line| line.split(' ').nth(2).unwrap_or("end"));
+        let answers: Vec<&str> = answers.collect();
+        assert_eq!(answers[0], if started { "0" } else { "1" });
+        for (limit, answer) in limits.iter().zip(&answers[1..]) {
+            let [step] = steps(*limit)[..] else { panic!("{limit} in {rows:?}") };
+            match *answer {
+                "2" => assert!(!started),
+                "5" => assert!(started && limit % step != 0, "{limit} in {rows:?}"),
+                "0" | "6" => assert!(started && limit % step == 0, "{limit} in {rows:?}"),
+                other => panic!("{other}"),
+            }
+            met_0 += u32::from(*answer == "0");
+            met_5 += u32::from(*answer == "5");
+        }
+    }
+    assert!(met_0 > 1_000 && met_5 > 1_000, "{met_0} {met_5}");
+}
+
+/// Any bytes in and around starts of kind 6 end well. What is written anew is the file up to where
+/// it stops, and that much walks without a fault.
+#[test]
+fn any_bytes_of_tables() {
+    let mut seed: u64 = 66;
+    let mut draw = move |below: u64| {
+        seed = seed.wrapping_mul(6364136223846793005).wrapping_add(1442695040888963407);
+        (seed >> 33) % below
+    };
+    let mut met = [0; 3];
+    for _ in 0..20_000 {
+        let mut file = vec![];
+        for _ in 0..1 + draw(3) {
+            let rows: Vec<Band> = (0..draw(11) as u32).map(|row| (1 + row, 1)).collect();
+            let count =
+                [rows.len() as u64, draw(12), draw(65_536)][draw(20).saturating_sub(17) as usize];
+            file.extend(banded_counting(count as u16, &rows, &start()[8..]));
+            file.extend([day(BUY, 1, 100_000), quote(99_999, 100_001), auction(OPENING)].concat());
+        }
+        for _ in 0..draw(3) {
+            let at = draw(file.len() as u64) as usize;
+            file[at] = draw(256) as u8;
+        }
+        if draw(3) == 0 {
+            file.truncate(draw(file.len() as u64 + 1) as usize);
+        }
+        let (lines, written) = (run(&file), rewrite(&file));
+        assert_eq!(clearing(&file).lines().next(), lines.lines().next());
+        assert!(looks(&file).lines().last() == lines.lines().last());
+        assert!(file.starts_with(&written));
+        assert!(!walk(&written).1 && rewrite(&written) == written);
+        for (met, line) in met.iter_mut().zip(["1 start 0\n", "1 start 1\n", "1 fault 1\n"]) {
+            *met += u32::from(lines.starts_with(line));
+        }
+    }
+    assert!(met.iter().all(|met| *met > 500), "{met:?}");
 }

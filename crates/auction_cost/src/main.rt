@@ -8,8 +8,8 @@ use libc::STDOUT_FILENO;
 use terms::Auction;
 use terms::DelayThreshold;
 use terms::Entry;
+use terms::OneStep;
 use terms::Side;
-use terms::Start;
 use terms::Validity;
 ghost use Prim.Native.Nat.{_≤_};
 ghost use lib.ListN.{length};
@@ -36,17 +36,16 @@ fn no_answer() -> AuctionAnswer {
 fn started() -> Session
     ensures { λ r. ⌜ Sound r ⌝ }
 {
+    let asked = OneStep {
+        step: 100,
+        reference: REFERENCE,
+        factor: 9,
+        threshold: DelayThreshold::MAX,
+        most: 1_000_000_000_000,
+    };
+    let by_rows = asked.as_start();
     let fresh = Session::fresh();
-    let r = calls::start(
-        fresh,
-        Start {
-            step: 100,
-            reference: REFERENCE,
-            factor: 9,
-            threshold: DelayThreshold::MAX,
-            most: 1_000_000_000_000,
-        },
-    );
+    let r = calls::start(fresh, by_rows);
     let session = r.session;
     session
 }

@@ -24,6 +24,7 @@ step-plain d (Record.Start p) h = refl
 step-plain d (Record.Order e) h = let (answer, number, session) = as-plain d .order e h in rw (answer, number, session)
 step-plain d (Record.Delete x) h = refl
 step-plain d (Record.Auction which) h = refl
+step-plain d (Record.Bands p) h = refl
 step-plain d (Record.Quote e) h = let (answer, bid, ask, session) = as-plain d .quote e h in rw (answer, bid, ask, session)
 
 -- the session that is told is the one inside
@@ -33,6 +34,7 @@ inside d (Record.Order e) = refl
 inside d (Record.Delete x) = refl
 inside d (Record.Auction which) = refl
 inside d (Record.Quote e) = refl
+inside d (Record.Bands p) = refl
 
 -- K5c. .. so that the lines of records of which none is answered 16 are the plain session's.
 pub lines-plain : (d : Desk) (count : ℕ) (rs : List Record) (faulty : Bool) → NeverSixteenIn d rs → deskLinesFrom d count rs faulty ≡ linesFrom (d .session) count rs faulty

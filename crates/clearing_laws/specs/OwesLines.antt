@@ -5,6 +5,7 @@ use mathlib.Core.Path.{_≡_, refl, sym, ap, subst, _∙_}
 use mathlib.Core.List.{List, [], _∷_, _++_, map}
 use native.Mathlib.Omega.{arith}
 use lib.ListN.{getD}
+use Rattle.terms.specs.Parameters.{startWith}
 use Rattle.text.specs.Text.{texts}
 use Rattle.squares.specs.Square.{squareMembers, squareOf}
 use Rattle.desk.specs.declared.{Desk.Desk}
@@ -63,11 +64,12 @@ lines-owed cs = rw (rows-owed (run freshDesk cs) (reached-is-sound cs) (dealsSoF
 
 -- the call that a record asks for, with the list that the program lends
 abbrev pub callOf : Record → Call
-callOf (Record.Start p) = Call.act (Act.start p)
+callOf (Record.Start p) = Call.act (Act.start (startWith p))
 callOf (Record.Order e) = Call.act (Act.order e)
 callOf (Record.Delete x) = Call.act (Act.delete (x .number) (x .member))
 callOf (Record.Auction which) = Call.act (Act.auction which lent)
 callOf (Record.Quote e) = Call.act (Act.quote e)
+callOf (Record.Bands p) = Call.act (Act.start p)
 
 one-record : (d : Desk) (r : Record) → deskStep d r .desk ≡ after d (callOf r)
 one-record d (Record.Start p) = refl
@@ -75,6 +77,7 @@ one-record d (Record.Order e) = refl
 one-record d (Record.Delete x) = refl
 one-record d (Record.Auction which) = refl
 one-record d (Record.Quote e) = refl
+one-record d (Record.Bands p) = refl
 
 records-run : (d : Desk) (rs : List Record) → deskAfter d rs ≡ run d (map callOf rs)
 records-run d [] = refl

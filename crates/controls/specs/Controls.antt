@@ -2,14 +2,16 @@
 use Prim.Native.Nat.{_*_}
 use mathlib.Core.Bool.{Bool, false, not, _||_}
 use lib.Dec.{leb}
-use Rattle.terms.specs.Kinds.{isMultiple, valueOf}
-use Rattle.terms.specs.declared.kinds.{CollarFactor.CollarFactor, OrderValue.OrderValue, Price.Price, Quantity.Quantity, Step.Step}
+use Rattle.terms.specs.Kinds.{valueOf}
+use Rattle.terms.specs.Tables.{onStep}
+use Rattle.terms.specs.declared.kinds.{CollarFactor.CollarFactor, OrderValue.OrderValue, Price.Price, Quantity.Quantity}
+use Rattle.terms.specs.declared.tables.{Table.Table}
 use Rattle.terms.specs.declared.orders.{Limit.Limit, Limit.the-variants.Unlimited, Limit.the-variants.At}
 
--- 5: a limit is no multiple of the step
-abbrev pub offStep : Step → Limit → Bool
-offStep step Unlimited = false
-offStep step (At p) = not (isMultiple (step .0) (p .0))
+-- 5: a limit is no multiple of the step of the row in which it falls (02 K6)
+abbrev pub offStep : Table → Limit → Bool
+offStep table Unlimited = false
+offStep table (At p) = not (onStep table (p .0))
 
 -- 6: limit ≥ reference × factor, or limit × factor ≤ reference
 abbrev pub reachesCollar : Price → CollarFactor → Limit → Bool

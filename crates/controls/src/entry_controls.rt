@@ -4,18 +4,18 @@ use terms::Limit;
 use terms::OrderValue;
 use terms::Price;
 use terms::Quantity;
-use terms::Step;
+use terms::Table;
 use terms::product;
 ghost use mathlib.Core.Path.{_≡_};
 ghost use Rattle.controls.specs.Controls.{offStep, reachesCollar, reachesMost, reachesMostAtReference};
 
 // 5
-pub fn off_step(step: Step, limit: Limit) -> bool
-    ensures { λ r. ⌜ r ≡ offStep step limit ⌝ }
+pub fn off_step(table: Table, limit: Limit) -> bool
+    ensures { λ r. ⌜ r ≡ offStep table limit ⌝ }
 {
     match limit {
         Limit::Unlimited => false,
-        Limit::At(p) => !step.divides(p),
+        Limit::At(p) => !table.on_step(p),
     }
 }
 

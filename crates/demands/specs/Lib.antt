@@ -15,5 +15,6 @@ pub mod Auctioned
 pub mod EveryRun
 pub mod FilledFronts
 pub mod References
+pub mod Bands
 pub mod Files
 pub mod Writing

@@ -27,7 +27,7 @@ opening-prevented s sound list accepted =
     let exactly = non-opening-exactly (s .reference .0) (part s Opening) (takingPart-distinct Opening (resting (s .book)) (sound-ranged s sound .distinct)) in
     ((λ e. exactly .0 (number .0 e)), (λ no. number .1 (exactly .1 no)))
 
--- .. with "price" as any natural number above, and here as a price of 1 to 100,000,000 on the step ..
+-- .. with "price" as any natural number above, and here as a price of 1 to 100,000,000 on its step by the table ..
 pub opening-prevented-legally : (s : Session) → Sound s → (list : List ℕ) → auctioned s (auctionNumber Opening) list .returned .answer ≡ 0
     → (auctioned s (auctionNumber Opening) list .returned .result .outcome ≡ 3) ↔ (FillableAt (legalPrice s) (part s Opening) → ⊥)
 opening-prevented-legally s sound list accepted =

@@ -132,7 +132,7 @@ abbrev pub withStart : Session → Price → Session
 withStart s reference = record {
   phase = s .phase;
   delayed = s .delayed;
-  parameters = record { step = s .parameters .step; reference = reference; factor = s .parameters .factor; threshold = s .parameters .threshold; most = s .parameters .most };
+  parameters = record { table = s .parameters .table; reference = reference; factor = s .parameters .factor; threshold = s .parameters .threshold; most = s .parameters .most };
   reference = s .reference;
   given = s .given;
   book = s .book;

@@ -10,7 +10,8 @@ use lib.ListN.{length, take, drop, getD}
 use lib.Seq.{take-at, drop-at}
 use Rattle.lists.specs.Put.{put}
 use Rattle.terms.specs.declared.orders.{Entry.Entry}
-use Rattle.terms.specs.declared.parameters.{Start.Start}
+use Rattle.terms.specs.Parameters.{startWith}
+use Rattle.terms.specs.declared.parameters.{Start.Start, OneStep.OneStep}
 use Rattle.terms.specs.declared.quote_terms.{QuoteEntry.QuoteEntry}
 use Rattle.refusals.specs.Checks.{answered-number, answered-not-done}
 use Rattle.refusals.specs.Exactly.{ruleOf}
@@ -68,7 +69,7 @@ written-reads-back rs buffer h room = let w = all-written rs buffer h room in (w
 pub read-writes-back : (file buffer : List ℕ) → ((i : ℕ) → getD file i 0 < 256) → walk file .faulty ≡ false → T (allInRange (walk file .records)) → length file ≤ length buffer
     → AllWritten (walk file .records) buffer × (fileIn (writtenAll (walk file .records) buffer 0) ≡ file)
 read-writes-back file buffer bytes good h room =
-    let same = good-file-back file bytes good in
+    let same = good-file-back file bytes good h in
     let w = all-written (walk file .records) buffer h (rw same room) in
     (w, w .file ∙ same)
 
@@ -95,11 +96,12 @@ writes-exactly r buffer place =
 
 -- K1d: "in range" is the calls' own: a record is in range exactly when the call on it does not answer 1, whatever the session and the lent list.
 pub record RangeOfTheCalls (s : Session) : Type 0 where
-  pub of-start : (x : Start) → (started s x .answer ≡ 1) ↔ T (not (inRange (Record.Start x)))
+  pub of-start : (x : OneStep) → (started s (startWith x) .answer ≡ 1) ↔ T (not (inRange (Record.Start x)))
   pub of-order : (e : Entry) → (entered s e .answer ≡ 1) ↔ T (not (inRange (Record.Order e)))
   pub of-delete : (d : Deletion) → (deleted s (d .number) (d .member) .answer ≡ 1) ↔ T (not (inRange (Record.Delete d)))
   pub of-auction : (which : ℕ) (list : List ℕ) → (auctioned s which list .returned .answer ≡ 1) ↔ T (not (inRange (Record.Auction which)))
   pub of-quote : (q : QuoteEntry) → (quoted s q .answer ≡ 1) ↔ T (not (inRange (Record.Quote q)))
+  pub of-bands : (x : Start) → (started s x .answer ≡ 1) ↔ T (not (inRange (Record.Bands x)))
 
 -- 1 is the first check, so that no earlier one can hit
 first : {A B : Type 0} → A ↔ (B × Unit {0}) → A ↔ B
@@ -107,9 +109,10 @@ first (to, from) = ((λ a. to a .0), (λ b. from (b, tt)))
 
 pub range-of-the-calls : (s : Session) → RangeOfTheCalls s
 range-of-the-calls s = record {
-  of-start = λ x. first (start-exactly s x .refused 1 (omega arith));
+  of-start = λ x. first (start-exactly s (startWith x) .refused 1 (omega arith));
   of-order = λ e. first (order-exactly s e .refused 1 (omega arith));
   of-delete = λ d. first (delete-exactly s (d .number) (d .member) .refused 1 (omega arith));
   of-auction = λ which list. first (auction-exactly s which list .refused 1 (omega arith));
   of-quote = λ q. first (quote-exactly s q .refused 1 (omega arith));
+  of-bands = λ x. first (start-exactly s x .refused 1 (omega arith));
 }

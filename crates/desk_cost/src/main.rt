@@ -11,10 +11,10 @@ use squares::CELLS;
 use terms::Auction;
 use terms::DelayThreshold;
 use terms::Entry;
+use terms::OneStep;
 use terms::QuoteEntry;
 use terms::Side;
 use terms::SideEntry;
-use terms::Start;
 use terms::Validity;
 ghost use Prim.Native.Nat.{_≤_};
 ghost use Rattle.desk.specs.Sound.{SoundDesk};
@@ -42,17 +42,16 @@ fn no_answer() -> AuctionAnswer {
 fn started() -> Desk
     ensures { λ r. ⌜ SoundDesk r ⌝ }
 {
+    let asked = OneStep {
+        step: 100,
+        reference: REFERENCE,
+        factor: 9,
+        threshold: DelayThreshold::MAX,
+        most: 1_000_000_000_000,
+    };
+    let by_rows = asked.as_start();
     let fresh = Desk::fresh();
-    let r = desk::start(
-        fresh,
-        Start {
-            step: 100,
-            reference: REFERENCE,
-            factor: 9,
-            threshold: DelayThreshold::MAX,
-            most: 1_000_000_000_000,
-        },
-    );
+    let r = desk::start(fresh, by_rows);
     let begun = r.desk;
     begun
 }

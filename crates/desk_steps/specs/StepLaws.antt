@@ -5,6 +5,7 @@ use mathlib.Core.List.{List, [], _∷_, _++_, append-nil}
 use native.Mathlib.Omega.{arith}
 use lib.ListN.{length}
 use Rattle.lists.specs.Put.{Wrote}
+use Rattle.terms.specs.Parameters.{startWith}
 use Rattle.records.specs.declared.{kinds.Record.Record}
 use Rattle.lines.specs.declared.{Line.Line}
 use Rattle.lines.specs.Line.{lineOf, tradeLines}
@@ -47,13 +48,15 @@ desk-step-room place d (Record.Order e) = alone-room place (deskStep d (Record.O
 desk-step-room place d (Record.Delete x) = alone-room place (deskStep d (Record.Delete x) .told .line)
 desk-step-room place d (Record.Auction which) = plain.step-room place (d .session) (Record.Auction which)
 desk-step-room place d (Record.Quote e) = alone-room place (deskStep d (Record.Quote e) .told .line)
+desk-step-room place d (Record.Bands p) = alone-room place (deskStep d (Record.Bands p) .told .line)
 
 pub desk-step-sound : (d : Desk) (r : Record) → SoundDesk d → SoundDesk (deskStep d r .desk)
-desk-step-sound d (Record.Start p) h = started-desk-sound d p h
+desk-step-sound d (Record.Start p) h = started-desk-sound d (startWith p) h
 desk-step-sound d (Record.Order e) h = entered-desk-sound d e h
 desk-step-sound d (Record.Delete x) h = deleted-desk-sound d (x .number) (x .member) h
 desk-step-sound d (Record.Auction which) h = auctioned-desk-sound d which lent h
 desk-step-sound d (Record.Quote e) h = quoted-desk-sound d e h
+desk-step-sound d (Record.Bands p) h = started-desk-sound d p h
 
 -- a fresh desk is reached by none, and one more record leads on; each is sound
 pub reached-fresh : Reached freshDesk

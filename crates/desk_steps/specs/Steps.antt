@@ -4,6 +4,7 @@ use mathlib.Core.Bool.{Bool}
 use mathlib.Core.Path.{_≡_}
 use mathlib.Core.List.{List, [], _∷_, _++_}
 use Rattle.lists.specs.Put.{Wrote}
+use Rattle.terms.specs.Parameters.{startWith}
 use Rattle.trades.specs.declared.{Trade.Trade}
 use Rattle.records.specs.declared.{kinds.Record.Record}
 use Rattle.lines.specs.declared.{words.Word.Word, Line.Line}
@@ -36,11 +37,12 @@ abbrev pub auctionTold : Auctioned → List Trade → DeskStep
 auctionTold r trades = record { desk = r .desk; told = auctionStep (record { answer = r .answer; result = r .result; session = r .desk .session }) trades }
 
 abbrev pub deskStep : Desk → Record → DeskStep
-deskStep d (Record.Start p) = startTold (started d p)
+deskStep d (Record.Start p) = startTold (started d (startWith p))
 deskStep d (Record.Order e) = orderTold (entered d e)
 deskStep d (Record.Delete x) = deleteTold (deleted d (x .number) (x .member))
 deskStep d (Record.Auction which) = auctionTold (auctioned d which lent .returned) (tradesAnswered (d .session) which)
 deskStep d (Record.Quote e) = quoteTold (quoted d e)
+deskStep d (Record.Bands p) = startTold (started d p)
 
 -- the desk after records, one after the other
 abbrev pub deskAfter : Desk → List Record → Desk

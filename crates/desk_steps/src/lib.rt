@@ -15,7 +15,7 @@ ghost use mathlib.Core.Path.{_≡_};
 ghost use Prim.Native.Nat.{_+_, _≤_};
 ghost use lib.ListN.{length};
 ghost use Rattle.terms.specs.Bounds.{tradeListLength};
-ghost use Rattle.records.specs.declared.kinds.Record.the-variants.{Start as Start·record, Order as Order·record, Delete as Delete·record, Auction as Auction·record, Quote as Quote·record};
+ghost use Rattle.records.specs.declared.kinds.Record.the-variants.{Order as Order·record, Delete as Delete·record, Auction as Auction·record, Quote as Quote·record, Bands as Bands·record};
 ghost use Rattle.lists.specs.Put.{Wrote};
 ghost use Rattle.lines.specs.Line.{lineOf};
 ghost use Rattle.lines.specs.Lengths.{lineRoom};
@@ -53,9 +53,10 @@ fn put_answer(
     line_of(out, at, place, line)
 }
 
+// By its table; a start of kind 1 means one row (02 K6).
 fn started(desk: Desk, start: Start, place: u64, out: &mut [u8], at: usize) -> Stepped
     requires { ⌜ SoundDesk desk × (at + lineRoom ≤ length (now out)) ⌝ }
-    ensures { λ r. ⌜ WroteDesk place (now (out .entry)) (now (out .exit)) at r (deskStep desk (Start·record start)) ⌝ }
+    ensures { λ r. ⌜ WroteDesk place (now (out .entry)) (now (out .exit)) at r (deskStep desk (Bands·record start)) ⌝ }
 {
     let r = desk::start(desk, start);
     let end = put_answer(out, at, place, Word::Start, r.answer, 0, 0);
@@ -141,10 +142,11 @@ pub fn carried_out(
     ensures { λ r. ⌜ WroteDesk place (now (out .entry)) (now (out .exit)) at r (deskStep desk asked) ⌝ }
 {
     match asked {
-        Record::Start(start) => started(desk, start, place, out, at),
+        Record::Start(start) => started(desk, start.as_start(), place, out, at),
         Record::Order(entry) => entered(desk, entry, place, out, at),
         Record::Delete(deletion) => deleted(desk, deletion, place, out, at),
         Record::Auction(which) => auctioned(desk, which, place, list, out, at),
         Record::Quote(entry) => quoted(desk, entry, place, out, at),
+        Record::Bands(start) => started(desk, start, place, out, at),
     }
 }

@@ -8,7 +8,8 @@ use lib.Dec.{T}
 use Rattle.lists.specs.Tests.{test-holds, and-intro}
 use Rattle.lists.specs.Choice.{any}
 use Rattle.terms.specs.Bounds.{places, maxNumber}
-use Rattle.terms.specs.Kinds.{isPrice, isMultiple}
+use Rattle.terms.specs.Kinds.{isPrice}
+use Rattle.terms.specs.Tables.{onStep}
 use Rattle.terms.specs.Orders.{isLimit, isLegal, limitFrom, isEntry}
 use Rattle.terms.specs.Made.{fields-hold}
 use Rattle.terms.specs.Parameters.{parametersFrom, isStart}
@@ -45,7 +46,7 @@ delete-room s number member e =
 pub record Accepted (s : Session) (e : Entry) : Type 0 where
   pub in-range : T (isEntry e)
   pub running : T (hasStarted (s .phase))
-  on-step : T (not (offStep (s .parameters .step) (limitFrom (e .limit))))
+  on-step : T (not (offStep (s .parameters .table) (limitFrom (e .limit))))
   number-left : s .given < maxNumber
   pub room : lowestFree (s .book .taken) < places
 
@@ -61,9 +62,9 @@ accepted s e h =
     }
 
 -- a limit in range that is not off the step is legal
-pub on-step-legal : (s : Session) (w : Limit) → T (isLimit w) → T (not (offStep (s .parameters .step) w)) → T (isLegal (legalPrice s) w)
+pub on-step-legal : (s : Session) (w : Limit) → T (isLimit w) → T (not (offStep (s .parameters .table) w)) → T (isLegal (legalPrice s) w)
 on-step-legal s Unlimited h k = tt
-on-step-legal s (At p) h k = and-intro (isPrice (p .0)) _ h (go (isMultiple (s .parameters .step .0) (p .0)) k)
+on-step-legal s (At p) h k = and-intro (isPrice (p .0)) _ h (go (onStep (s .parameters .table) (p .0)) k)
   where
     go : (b : Bool) → T (not (not b)) → T b
     go true k = tt

@@ -5,11 +5,11 @@ use calls::Session;
 use libc::STDIN_FILENO;
 use libc::STDOUT_FILENO;
 use terms::Entry;
+use terms::OneStep;
 use terms::Place;
 use terms::QuoteEntry;
 use terms::Side;
 use terms::SideEntry;
-use terms::Start;
 use terms::Validity;
 ghost use Prim.Native.Nat.{_≤_};
 ghost use Rattle.session.specs.Sound.{Sound};
@@ -26,17 +26,16 @@ struct LastCall {
 fn started() -> Session
     ensures { λ r. ⌜ Sound r ⌝ }
 {
+    let asked = OneStep {
+        step: 100,
+        reference: 100_000,
+        factor: 9,
+        threshold: 150,
+        most: 1_000_000_000_000,
+    };
+    let by_rows = asked.as_start();
     let fresh = Session::fresh();
-    let r = calls::start(
-        fresh,
-        Start {
-            step: 100,
-            reference: 100_000,
-            factor: 9,
-            threshold: 150,
-            most: 1_000_000_000_000,
-        },
-    );
+    let r = calls::start(fresh, by_rows);
     let session = r.session;
     session
 }

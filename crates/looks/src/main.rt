@@ -98,11 +98,12 @@ fn carried_out(session: Session, record: Record) -> Session
     ensures { λ r. ⌜ Sound r ⌝ }
 {
     match record {
-        Record::Start(start) => started(session, start),
+        Record::Start(start) => started(session, start.as_start()),
         Record::Order(entry) => entered(session, entry),
         Record::Delete(deletion) => deleted(session, deletion),
         Record::Auction(which) => auctioned(session, which),
         Record::Quote(entry) => quoted(session, entry),
+        Record::Bands(start) => started(session, start),
     }
 }
 

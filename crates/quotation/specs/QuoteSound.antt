@@ -35,7 +35,7 @@ use Rattle.quotation.specs.QuoteCall.{bid-is-placed, ask-is-placed}
 pub record AcceptedQuote (s : Session) (e : QuoteEntry) : Type 0 where
   pub in-range : T (isQuote e)
   pub running : T (hasStarted (s .phase))
-  pub on-step : (side : Side) → offStep (s .parameters .step) (quoteOrder (quoteFrom e) side .limit) ≡ false
+  pub on-step : (side : Side) → offStep (s .parameters .table) (quoteOrder (quoteFrom e) side .limit) ≡ false
   pub numbers-left : s .given + 2 ≤ maxNumber
   pub bid-room : bidPlace s e < places
   pub ask-room : askPlace s e < places
@@ -52,8 +52,8 @@ accepted-quote s e h =
       ask-room = ask-is-placed s e (rule 10);
     }
   where
-    each-side : (offStep (s .parameters .step) (quoteOrder (quoteFrom e) Buy .limit) ≡ false) × (offStep (s .parameters .step) (quoteOrder (quoteFrom e) Sell .limit) ≡ false)
-        → (side : Side) → offStep (s .parameters .step) (quoteOrder (quoteFrom e) side .limit) ≡ false
+    each-side : (offStep (s .parameters .table) (quoteOrder (quoteFrom e) Buy .limit) ≡ false) × (offStep (s .parameters .table) (quoteOrder (quoteFrom e) Sell .limit) ≡ false)
+        → (side : Side) → offStep (s .parameters .table) (quoteOrder (quoteFrom e) side .limit) ≡ false
     each-side (b, a) Buy = b
     each-side (b, a) Sell = a
 
@@ -77,7 +77,7 @@ module _ (s : Session) (sound : Sound s) (e : QuoteEntry) (ok : AcceptedQuote s 
       fields : QuoteFields e
       fields = quote-fields e (ok .in-range)
 
-      go : (side : Side) → offStep (s .parameters .step) (quoteOrder (quoteFrom e) side .limit) ≡ false → SoundOrder (legalPrice s) number (restingAs number true (quoteOrder (quoteFrom e) side))
+      go : (side : Side) → offStep (s .parameters .table) (quoteOrder (quoteFrom e) side .limit) ≡ false → SoundOrder (legalPrice s) number (restingAs number true (quoteOrder (quoteFrom e) side))
       go Buy on =
           let (quantity, limit) = and-both (isQuantity (e .bid .quantity)) _ (fields .bid) in
           record { numbered = above; given-already = omega arith; of-member = fields .member; open-quantity = quantity; limit-in-range = limit; limit-legal = on-step-legal s (quoteOrder (quoteFrom e) Buy .limit) limit (rw on tt) }

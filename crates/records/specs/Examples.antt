@@ -1,12 +1,16 @@
--- Worked examples: the start record of 01 "Session file", read and written, and each thing that ends a walk.
+-- Worked examples: the start record of 01 "Session file" and that of 02 K6, read and written, and each thing that ends a walk.
 use mathlib.Core.Bool.{true, false}
 use mathlib.Core.Path.{_≡_, refl}
 use Prim.Native.Nat.{ℕ}
 use mathlib.Core.List.{List, [], _∷_, _++_}
-use Rattle.records.specs.declared.{kinds.Record.Record}
+use lib.ListN.{take, replicate}
+use Rattle.terms.specs.Tables.{noRow, isTable, rowOf, onStep}
+use Rattle.terms.specs.declared.tables.{Row.Row}
+use Rattle.records.specs.declared.{kinds.Record.Record, Piece.Piece}
 use Rattle.records.specs.Fields.{number, isLength, inRange}
 use Rattle.records.specs.Bytes.{recordBytes, fileOf}
 use Rattle.records.specs.Walk.{Read, recordAt, walkFrom, walk}
+use Rattle.records.specs.Pieces.{pieceAt}
 
 -- 18 00 01 00 64 00 00 00 A0 86 01 00 09 00 96 00 00 10 A5 D4 E8 00 00 00
 abbrev startBytes : List ℕ
@@ -70,6 +74,93 @@ crossed-in-range = refl
 
 unlimited-out-of-range : inRange (Record.Quote (record { member = 258; bid = record { quantity = 1; limit = 99_800 }; ask = record { quantity = 1; limit = 0 } })) ≡ false
 unlimited-out-of-range = refl
+
+-- a start by bands (02 K6): from 1 on the step is 10, from 100,000 on 50
+-- 26 00 06 00 02 00 01 00 00 00 0A 00 00 00 A0 86 01 00 32 00 00 00 A0 86 01 00 09 00 96 00 00 10 A5 D4 E8 00 00 00
+abbrev bandsBytes : List ℕ
+bandsBytes =
+    0x26 ∷ 0x00 ∷ 0x06 ∷ 0x00 ∷ 0x02 ∷ 0x00 ∷ 0x01 ∷ 0x00 ∷ 0x00 ∷ 0x00 ∷ 0x0A ∷ 0x00 ∷ 0x00 ∷ 0x00 ∷ 0xA0 ∷ 0x86 ∷ 0x01 ∷ 0x00 ∷ 0x32 ∷ 0x00 ∷ 0x00 ∷ 0x00 ∷ 0xA0 ∷ 0x86 ∷ 0x01 ∷ 0x00 ∷ 0x09 ∷ 0x00 ∷ 0x96 ∷ 0x00 ∷ 0x00 ∷ 0x10 ∷ 0xA5 ∷ 0xD4 ∷ 0xE8 ∷ 0x00 ∷ 0x00 ∷ 0x00 ∷ []
+
+abbrev bandsRecord : Record
+bandsRecord =
+    Record.Bands (record {
+      table = record {
+        count = 2;
+        first = record { lowest = 1; step = 10 };
+        second = record { lowest = 100_000; step = 50 };
+        third = noRow;
+        fourth = noRow;
+        fifth = noRow;
+        sixth = noRow;
+        seventh = noRow;
+        eighth = noRow;
+      };
+      reference = 100_000;
+      factor = 9;
+      threshold = 150;
+      most = 1_000_000_000_000;
+    })
+
+bands-read : recordAt bandsBytes 0 ≡ Read.Record bandsRecord 38
+unfolding recordAt isLength number
+bands-read = refl
+
+bands-written : recordBytes bandsRecord ≡ bandsBytes
+unfolding recordBytes
+bands-written = refl
+
+bands-in-range : inRange bandsRecord ≡ true
+unfolding isTable onStep rowOf
+bands-in-range = refl
+
+-- nine rows, and a length that fits them: a record, of which a table holds eight rows, and it is out of range
+abbrev nineBytes : List ℕ
+nineBytes = 94 ∷ 0 ∷ 6 ∷ 0 ∷ 9 ∷ 0 ∷ replicate 88 1
+
+abbrev nineRecord : Record
+nineRecord =
+    let row : Row = record { lowest = 0x01010101; step = 0x01010101 } in
+    Record.Bands (record {
+      table = record { count = 9; first = row; second = row; third = row; fourth = row; fifth = row; sixth = row; seventh = row; eighth = row };
+      reference = 0x01010101;
+      factor = 0x0101;
+      threshold = 0x0101;
+      most = 0x0101010101010101;
+    })
+
+nine-read : recordAt nineBytes 0 ≡ Read.Record nineRecord 94
+unfolding recordAt isLength number
+nine-read = refl
+
+nine-out-of-range : inRange nineRecord ≡ false
+unfolding isTable
+nine-out-of-range = refl
+
+-- a length that doesn't fit the row count, one too short to hold it, and a cut table end the walk
+rows-misfit : walk (38 ∷ 0 ∷ 6 ∷ 0 ∷ 1 ∷ 0 ∷ replicate 32 0) ≡ record { records = []; faulty = true }
+unfolding walkFrom recordAt isLength number
+rows-misfit = refl
+
+no-count : walk (5 ∷ 0 ∷ 6 ∷ 0 ∷ 1 ∷ []) ≡ record { records = []; faulty = true }
+unfolding walkFrom recordAt isLength number
+no-count = refl
+
+cut-table : walk (take 20 bandsBytes) ≡ record { records = []; faulty = true }
+unfolding walkFrom recordAt isLength number
+cut-table = refl
+
+-- a header with half its row count waits for more; with all of it, or with a length that has no room for one, it is judged
+half-count-waits : pieceAt (38 ∷ 0 ∷ 6 ∷ 0 ∷ 2 ∷ []) 0 false ≡ Piece.Waits
+unfolding pieceAt recordAt isLength number
+half-count-waits = refl
+
+misfit-judged : pieceAt (38 ∷ 0 ∷ 6 ∷ 0 ∷ 1 ∷ 0 ∷ []) 0 false ≡ Piece.Fault
+unfolding pieceAt recordAt isLength number
+misfit-judged = refl
+
+no-count-judged : pieceAt (5 ∷ 0 ∷ 6 ∷ 0 ∷ []) 0 false ≡ Piece.Fault
+unfolding pieceAt recordAt isLength number
+no-count-judged = refl
 
 -- an empty file is good and has no records
 empty : walk [] ≡ record { records = []; faulty = false }

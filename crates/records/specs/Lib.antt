@@ -9,9 +9,11 @@ pub mod Examples
 pub mod Layout
 pub mod Ends
 pub mod Pieces
+pub mod TableBytes
 pub mod RoundTrip
 -- as the code computes it
 pub mod Numbers
 pub mod Lengths
 pub mod Reads
+pub mod BandsRead
 pub mod Headers

@@ -1,34 +1,38 @@
 -- A file that comes in pieces: what is read of its front part is read of the whole.
-use Prim.Native.Nat.{ℕ, zero, suc, _+_, _-_, _≤_, _<_}
+use Prim.Native.Nat.{ℕ, _+_, _-_, _≤_, _<_}
 use mathlib.Core.Bool.{Bool, true, false, cond, not, _||_, _&&_, true≢false}
 use mathlib.Core.Path.{_≡_, refl, sym, _∙_, ap}
 use mathlib.Core.List.{List, _++_}
-use lib.Dec.{leb, ltb}
-use lib.ListN.{length, drop, length-append, length-drop, List·getD-append}
+use lib.Dec.{eqb, leb, ltb}
+use lib.ListN.{length, drop, length-append, length-drop}
 use lib.Seq.{take-append-le, drop-append-le, drop-drop}
 use native.Mathlib.Omega.{arith}
-use borrow.Author.Tests.{le-ltb, lt-ltb, ltb-true, ltb-false, leb-true, leb-false}
+use borrow.Author.Tests.{le-ltb, lt-ltb, ltb-true, ltb-false, leb-true, leb-false, eqb-true}
 use Rattle.lists.specs.Tests.{neither}
 use Rattle.records.specs.declared.{kinds.Record.Record, Piece.Piece, kinds.Header.Header}
-use Rattle.records.specs.Fields.{number, headerLength, recordOf}
-use Rattle.records.specs.Numbers.{number-moved}
-use Rattle.records.specs.Lengths.{lengthBound, length-below, length-front}
+use Rattle.records.specs.Fields.{headerLength, lengthBound, countedLength, isLength, recordOf}
+use Rattle.records.specs.Numbers.{number-front, number-moved}
+use Rattle.records.specs.Lengths.{length-below, length-front, length-any, length-low}
 use Rattle.records.specs.Walk.{Read, lengthAt, kindAt, partAt, isHeader, isCut, isFaulty, recordAt}
-use Rattle.records.specs.Headers.{headerAt, headerRead, read-header}
+use Rattle.records.specs.Headers.{isOpen, open-is, open-cut, headerAt, headerRead, read-header}
 use Rattle.records.specs.Reads.{faulty-whole, read-end, read-fault, read-record, good-record}
 
--- the header isn't whole yet, or it is good and its record isn't
+-- the header isn't whole yet, or can't be judged yet, or it is good; and its record isn't whole
 abbrev pub needsMore : List ℕ → ℕ → Bool
-needsMore bytes place = ltb (length bytes) (place + headerLength) || isHeader bytes place && isCut bytes place
+needsMore bytes place = ltb (length bytes) (place + headerLength) || (isOpen bytes place || isHeader bytes place) && isCut bytes place
 
 -- what waits for more is shorter than a record can be
 pub waits-short : (bytes : List ℕ) (place : ℕ) → needsMore bytes place ≡ true → length bytes < place + lengthBound
-waits-short bytes place h = go (ltb (length bytes) (place + headerLength)) (isHeader bytes place) (isCut bytes place) refl refl refl h where
-  go : (a b c : Bool) → ltb (length bytes) (place + headerLength) ≡ a → isHeader bytes place ≡ b → isCut bytes place ≡ c → a || b && c ≡ true → length bytes < place + lengthBound
-  go true b c p q r e = omega (arith, ltb-true (length bytes) (place + headerLength) p)
-  go false true true p q r e = omega (arith, ltb-true (length bytes) (place + lengthAt bytes place) r, length-below (kindAt bytes place) (drop place bytes) (lengthAt bytes place) q)
-  go false true false p q r e = absurd (true≢false (sym e))
-  go false false c p q r e = absurd (true≢false (sym e))
+waits-short bytes place h =
+    go (ltb (length bytes) (place + headerLength)) (isOpen bytes place) (isHeader bytes place) (isCut bytes place) refl refl refl refl h where
+      go : (a o b c : Bool) → ltb (length bytes) (place + headerLength) ≡ a → isOpen bytes place ≡ o → isHeader bytes place ≡ b → isCut bytes place ≡ c
+          → a || (o || b) && c ≡ true → length bytes < place + lengthBound
+      go true o b c p s q r e = omega (arith, ltb-true (length bytes) (place + headerLength) p)
+      go false true b c p s q r e = omega (arith, open-is bytes place s .2)
+      go false false true true p s q r e =
+          omega (arith, ltb-true (length bytes) (place + lengthAt bytes place) r, length-below (kindAt bytes place) (drop place bytes) (lengthAt bytes place) q)
+      go false false true false p s q r e = absurd (true≢false (sym e))
+      go false false false c p s q r e = absurd (true≢false (sym e))
 
 -- of a file that won't grow
 abbrev pub pieceOf : Read → Piece
@@ -61,7 +65,7 @@ pub piece-header : (bytes : List ℕ) (place : ℕ) (ended : Bool) → place + h
 unfolding pieceAt headerAt
 piece-header bytes place ended h =
     rw (le-ltb _ _ h, sym (read-header bytes place h))
-    (go ended (isHeader bytes place) (isCut bytes place) (recordOf (kindAt bytes place) (partAt bytes place)) (place + lengthAt bytes place)) where
+    (go ended (isOpen bytes place || isHeader bytes place) (isCut bytes place) (recordOf (kindAt bytes place) (partAt bytes place)) (place + lengthAt bytes place)) where
       go : (e a b : Bool) (r : Record) (next : ℕ)
           → headerPiece e (cond a (cond b Header.Cut (Header.Record r next)) Header.Bad) ≡
           cond (not e && (a && b)) Piece.Waits (pieceOf (headerRead (cond a (cond b Header.Cut (Header.Record r next)) Header.Bad)))
@@ -72,15 +76,20 @@ piece-header bytes place ended h =
       go false true false r next = refl
       go false false b r next = refl
 
-number-front : (n : ℕ) (bytes more : List ℕ) (place : ℕ) → place + n ≤ length bytes → number (bytes ++ more) place n ≡ number bytes place n
-unfolding number
-number-front zero bytes more place h = refl
-number-front (suc n) bytes more place h = rw (List·getD-append bytes more 0 place (omega arith), number-front n bytes more (suc place) (omega arith))
-
-header-front : (bytes more : List ℕ) (place : ℕ) → place + headerLength ≤ length bytes → isHeader (bytes ++ more) place ≡ isHeader bytes place
-header-front bytes more place h =
+-- a header that is whole, and judged
+header-front : (bytes more : List ℕ) (place : ℕ) → place + headerLength ≤ length bytes → isOpen bytes place ≡ false → isHeader (bytes ++ more) place ≡ isHeader bytes place
+header-front bytes more place h k =
     rw (number-front 2 bytes more place (omega arith), number-front 2 bytes more (place + 2) (omega arith), drop-append-le place bytes more (omega arith))
-    (length-front (kindAt bytes place) (drop place bytes) more (lengthAt bytes place))
+    (go (eqb (kindAt bytes place) 6) (leb countedLength (lengthAt bytes place)) refl refl) where
+      go : (a b : Bool) → eqb (kindAt bytes place) 6 ≡ a → leb countedLength (lengthAt bytes place) ≡ b
+          → isLength (kindAt bytes place) (drop place bytes ++ more) (lengthAt bytes place) ≡ isLength (kindAt bytes place) (drop place bytes) (lengthAt bytes place)
+      go false b p q = length-any (kindAt bytes place) (drop place bytes ++ more) (drop place bytes) (lengthAt bytes place) p
+      go true false p q =
+          let l = leb-false countedLength (lengthAt bytes place) q in
+          rw (eqb-true (kindAt bytes place) 6 p) (length-low (drop place bytes ++ more) (lengthAt bytes place) l ∙ sym (length-low (drop place bytes) (lengthAt bytes place) l))
+      go true true p q =
+          length-front (kindAt bytes place) (drop place bytes) more (lengthAt bytes place)
+          (rw (length-drop place bytes) (omega (arith, ltb-false (length bytes) (place + countedLength) (rw (p, q) at k))))
 
 part-front : (bytes more : List ℕ) (place : ℕ) → headerLength < lengthAt bytes place → place + lengthAt bytes place ≤ length bytes
     → partAt (bytes ++ more) place ≡ partAt bytes place
@@ -95,9 +104,17 @@ cut-front bytes more place h k =
 
 -- more bytes don't change what is whole, or faulty already
 pub settled-read : (bytes : List ℕ) (place : ℕ) → needsMore bytes place ≡ false → (more : List ℕ) → recordAt (bytes ++ more) place ≡ recordAt bytes place
-settled-read bytes place h more = go (isHeader bytes place) (isCut bytes place) refl refl (n .1) where
-  n : (ltb (length bytes) (place + headerLength) ≡ false) × (isHeader bytes place && isCut bytes place ≡ false)
-  n = neither (ltb (length bytes) (place + headerLength)) (isHeader bytes place && isCut bytes place) h
+settled-read bytes place h more = go (isHeader bytes place) (isCut bytes place) refl refl (n .2) where
+  judged : (o b c : Bool) → (o ≡ true → c ≡ true) → (o || b) && c ≡ false → (o ≡ false) × (b && c ≡ false)
+  judged true b true f e = absurd (true≢false e)
+  judged true b false f e = absurd (true≢false (sym (f refl)))
+  judged false b c f e = (refl, e)
+
+  n : (ltb (length bytes) (place + headerLength) ≡ false) × (isOpen bytes place ≡ false) × (isHeader bytes place && isCut bytes place ≡ false)
+  n =
+      let t = neither (ltb (length bytes) (place + headerLength)) ((isOpen bytes place || isHeader bytes place) && isCut bytes place) h in
+      let j = judged (isOpen bytes place) (isHeader bytes place) (isCut bytes place) (open-cut bytes place) (t .1) in
+      (t .0, j .0, j .1)
 
   whole : place + headerLength ≤ length bytes
   whole = ltb-false (length bytes) (place + headerLength) (n .0)
@@ -108,13 +125,13 @@ settled-read bytes place h more = go (isHeader bytes place) (isCut bytes place) 
   go : (a b : Bool) → isHeader bytes place ≡ a → isCut bytes place ≡ b → a && b ≡ false → recordAt (bytes ++ more) place ≡ recordAt bytes place
   go true true p q e = absurd (true≢false e)
   go false b p q e =
-      read-fault (bytes ++ more) place (omega (arith, whole′)) (sym (faulty-whole (bytes ++ more) place whole′) ∙ rw (header-front bytes more place whole, p)) ∙
+      read-fault (bytes ++ more) place (omega (arith, whole′)) (sym (faulty-whole (bytes ++ more) place whole′) ∙ rw (header-front bytes more place whole (n .1), p)) ∙
       sym (read-fault bytes place (omega (arith, whole)) (sym (faulty-whole bytes place whole) ∙ rw (p)))
   go true false p q e =
       let f : isFaulty bytes place ≡ false = sym (faulty-whole bytes place whole) ∙ rw (p, q) in
       let g = good-record bytes place f in
       let f′ : isFaulty (bytes ++ more) place ≡ false = sym (faulty-whole (bytes ++ more) place whole′) ∙
-      rw (header-front bytes more place whole, p, cut-front bytes more place (g .0) (g .1)) in
+      rw (header-front bytes more place whole (n .1), p, cut-front bytes more place (g .0) (g .1)) in
       read-record (bytes ++ more) place (omega (arith, whole′)) f′ ∙
       rw (part-front bytes more place (g .0) (g .1), number-front 2 bytes more place (omega (arith, whole)), number-front 2 bytes more (place + 2) (omega (arith, whole)))
       (sym (read-record bytes place (omega (arith, whole)) f))

@@ -5,22 +5,29 @@ use crate::numbers::eight;
 use crate::numbers::four;
 use crate::numbers::two;
 use terms::Entry;
+use terms::OneStep;
 use terms::QuoteEntry;
+use terms::Row;
 use terms::SideEntry;
 use terms::Start;
+use terms::Table;
 ghost use mathlib.Core.Path.{_≡_};
-ghost use Prim.Native.Nat.{_+_, _≤_};
+ghost use Prim.Native.Nat.{_+_, _≤_, _<_};
 ghost use lib.ListN.{length};
-ghost use Rattle.records.specs.Fields.{headerLength, startFields, orderFields, deleteFields, auctionField, quoteFields};
-ghost use Rattle.records.specs.Headers.{Headed, headerAt};
+ghost use Rattle.terms.specs.Bounds.{maxRows};
+ghost use Rattle.records.specs.Fields.{headerLength, bandWidths, wholeLength, startFields, orderFields, deleteFields, auctionField, quoteFields, rowField, tableFields, bandsFields};
+ghost use Rattle.records.specs.Walk.{lengthAt, partAt};
+ghost use Rattle.records.specs.Headers.{Headed, Unheaded, headerAt};
 
 // A record with whatever values its fields hold.
 pub enum Record {
-    Start(Start),
+    Start(OneStep),
     Order(Entry),
     Delete(Deletion),
     Auction(u8),
     Quote(QuoteEntry),
+    // A start with a table of steps (02 K6).
+    Bands(Start),
 }
 
 pub struct Deletion {
@@ -42,6 +49,8 @@ impl Kind {
 
     pub const QUOTE: u16 = 5;
 
+    pub const BANDS: u16 = 6;
+
     // Length and kind, two bytes each.
     pub const HEADER_LENGTH: usize = 4;
 
@@ -55,6 +64,12 @@ impl Kind {
 
     pub const QUOTE_LENGTH: usize = Kind::HEADER_LENGTH + QuotePart::END;
 
+    // Header and row count, by which a start by bands is judged (02 K6).
+    pub const COUNTED_LENGTH: usize = Kind::HEADER_LENGTH + BandsPart::ROWS;
+
+    // .. and what stands behind its rows.
+    pub const BANDS_LENGTH: usize = Kind::COUNTED_LENGTH + BandsPart::END;
+
     // Length and kind as one number of four bytes, so that a header is judged by one load and one compare.
     pub const START_HEAD: u32 = Kind::START_LENGTH as u32 + 65_536 * Kind::START as u32;
 
@@ -65,6 +80,13 @@ impl Kind {
     pub const AUCTION_HEAD: u32 = Kind::AUCTION_LENGTH as u32 + 65_536 * Kind::AUCTION as u32;
 
     pub const QUOTE_HEAD: u32 = Kind::QUOTE_LENGTH as u32 + 65_536 * Kind::QUOTE as u32;
+
+    // The length of a start by bands goes by the rows that it counts (02 K6).
+    pub fn bands_length(count: u16) -> usize
+        ensures { λ r. ⌜ r ≡ wholeLength (bandWidths count) ⌝ }
+    {
+        Kind::BANDS_LENGTH + BandsPart::ROW * count as usize
+    }
 }
 
 // Each field starts where the one before it ends.
@@ -134,10 +156,34 @@ impl QuotePart {
     pub const END: usize = QuotePart::ASK_LIMIT + 4;
 }
 
-fn start_fields(part: &[u8]) -> Start
+// A start by bands (02 K6): row count and rows; the later fields' places are counted from behind the rows on.
+pub struct BandsPart;
+
+impl BandsPart {
+    pub const COUNT: usize = 0;
+
+    pub const ROWS: usize = BandsPart::COUNT + 2;
+
+    // In a row: the lowest price, then the step.
+    pub const STEP: usize = 4;
+
+    pub const ROW: usize = BandsPart::STEP + 4;
+
+    pub const REFERENCE: usize = 0;
+
+    pub const FACTOR: usize = BandsPart::REFERENCE + 4;
+
+    pub const THRESHOLD: usize = BandsPart::FACTOR + 2;
+
+    pub const MOST: usize = BandsPart::THRESHOLD + 2;
+
+    pub const END: usize = BandsPart::MOST + 8;
+}
+
+fn start_fields(part: &[u8]) -> OneStep
     ensures { λ r. ⌜ r ≡ startFields (now (part .entry)) ⌝ }
 {
-    Start {
+    OneStep {
         step: four(part, StartPart::STEP),
         reference: four(part, StartPart::REFERENCE),
         factor: two(part, StartPart::FACTOR),
@@ -187,6 +233,53 @@ fn quote_fields(part: &[u8]) -> QuoteEntry
         limit: four(part, QuotePart::ASK_LIMIT),
     };
     QuoteEntry { member, bid, ask }
+}
+
+// A row, if it is counted (02 K6).
+fn row_at(part: &[u8], count: u16, index: usize) -> Row
+    requires { ⌜ index < maxRows ⌝ }
+    ensures { λ r. ⌜ r ≡ rowField (now (part .entry)) count index ⌝ }
+{
+    if count as usize <= index {
+        return Row::none();
+    }
+    let at = BandsPart::ROWS + BandsPart::ROW * index;
+    Row {
+        lowest: four(part, at),
+        step: four(part, at + BandsPart::STEP),
+    }
+}
+
+fn table_fields(part: &[u8]) -> Table
+    ensures { λ r. ⌜ r ≡ tableFields (now (part .entry)) ⌝ }
+{
+    let count = two(part, BandsPart::COUNT);
+    Table {
+        count,
+        first: row_at(part, count, 0),
+        second: row_at(part, count, 1),
+        third: row_at(part, count, 2),
+        fourth: row_at(part, count, 3),
+        fifth: row_at(part, count, 4),
+        sixth: row_at(part, count, 5),
+        seventh: row_at(part, count, 6),
+        eighth: row_at(part, count, 7),
+    }
+}
+
+// The fields of a start by bands (02 K6). Rows that are counted and for which a table has no place are passed over: such a count is out of range.
+fn bands_fields(part: &[u8]) -> Start
+    ensures { λ r. ⌜ r ≡ bandsFields (now (part .entry)) ⌝ }
+{
+    let table = table_fields(part);
+    let behind = BandsPart::ROWS + BandsPart::ROW * table.count as usize;
+    Start {
+        table,
+        reference: four(part, behind + BandsPart::REFERENCE),
+        factor: two(part, behind + BandsPart::FACTOR),
+        threshold: two(part, behind + BandsPart::THRESHOLD),
+        most: eight(part, behind + BandsPart::MOST),
+    }
 }
 
 // What a whole header says: a record and the place behind it, a record that isn't whole, or no known kind with its length.
@@ -257,6 +350,42 @@ fn quote_at(bytes: &[u8], place: usize) -> Header
     Header::Record(Record::Quote(quote_fields(&bytes[from..next])), next)
 }
 
+// The start by bands that stands at a place, for one who knows that it does: told apart by its header, and read when it is needed (02 K6).
+pub fn bands_from(bytes: &[u8], place: usize) -> Start
+    requires { ⌜ (headerLength < lengthAt (now bytes) place) × (place + lengthAt (now bytes) place ≤ length (now bytes)) ⌝ }
+    ensures { λ r. ⌜ r ≡ bandsFields (partAt (now (bytes .entry)) place) ⌝ }
+{
+    let from = place + Kind::HEADER_LENGTH;
+    let next = place + two(bytes, place) as usize;
+    bands_fields(&bytes[from..next])
+}
+
+// A start by bands, or no known kind with its length. Row count and length are judged together, as soon as both are there (02 K6).
+fn bands_at(bytes: &[u8], place: usize, head: u32) -> Header
+    requires { ⌜ Unheaded head (now bytes) place ⌝ }
+    ensures { λ r. ⌜ r ≡ headerAt (now (bytes .entry)) place ⌝ }
+{
+    if head / 65_536 != Kind::BANDS as u32 {
+        return Header::Bad;
+    }
+    let length = (head % 65_536) as usize;
+    if length < Kind::COUNTED_LENGTH {
+        return Header::Bad;
+    }
+    if bytes.len() - place < Kind::COUNTED_LENGTH {
+        return Header::Cut;
+    }
+    let from = place + Kind::HEADER_LENGTH;
+    if length != Kind::bands_length(two(bytes, from)) {
+        return Header::Bad;
+    }
+    if bytes.len() - place < length {
+        return Header::Cut;
+    }
+    let next = place + length;
+    Header::Record(Record::Bands(bands_fields(&bytes[from..next])), next)
+}
+
 // Which kind's header it is.
 pub(crate) fn header_at(bytes: &[u8], place: usize) -> Header
     requires { ⌜ place + headerLength ≤ length (now bytes) ⌝ }
@@ -269,6 +398,6 @@ pub(crate) fn header_at(bytes: &[u8], place: usize) -> Header
         Kind::DELETE_HEAD => delete_at(bytes, place),
         Kind::AUCTION_HEAD => auction_at(bytes, place),
         Kind::QUOTE_HEAD => quote_at(bytes, place),
-        _ => Header::Bad,
+        _ => bands_at(bytes, place, head),
     }
 }

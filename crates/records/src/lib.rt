@@ -8,6 +8,7 @@ mod walk;
 pub use kinds::Deletion;
 pub use kinds::Kind;
 pub use kinds::Record;
+pub use kinds::bands_from;
 pub use ranges::in_range;
 pub use reader::Reader;
 pub use reader::read_at;

@@ -79,10 +79,11 @@ pub fn in_range(record: Record) -> bool
     ensures { λ r. ⌜ r ≡ inRange «record» ⌝ }
 {
     match record {
-        Record::Start(start) => start_in_range(start),
+        Record::Start(one_step) => start_in_range(one_step.as_start()),
         Record::Order(entry) => order_in_range(entry),
         Record::Delete(deletion) => delete_in_range(deletion),
         Record::Auction(which) => auction_in_range(which),
         Record::Quote(entry) => quote_in_range(entry),
+        Record::Bands(start) => start_in_range(start),
     }
 }

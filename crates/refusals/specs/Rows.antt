@@ -28,7 +28,7 @@ abbrev pub orderLater : Phase → Parameters → Price → Bool → ℕ → Bool
 orderLater phase p reference beyond given full o =
     check 2 (not (hasStarted phase))
     ∷ check 4 (not (allowsOrder phase (o .validity)))
-    ∷ check 5 (offStep (p .step) (o .limit))
+    ∷ check 5 (offStep (p .table) (o .limit))
     ∷ check 6 (reachesCollar reference (p .factor) (o .limit))
     ∷ check 7 (reachesMost (p .most) (o .quantity) (o .limit))
     ∷ check 8 (reachesMostAtReference (p .most) (o .quantity) reference)
@@ -51,7 +51,7 @@ quoteLater phase p reference beyond given short q =
     check 13 (isCrossed q)
     ∷ check 2 (not (hasStarted phase))
     ∷ check 4 (not (allowsOrder phase Validity.Day))
-    ∷ check 5 (eitherSide (λ o. offStep (p .step) (o .limit)) q)
+    ∷ check 5 (eitherSide (λ o. offStep (p .table) (o .limit)) q)
     ∷ check 6 (eitherSide (λ o. reachesCollar reference (p .factor) (o .limit)) q)
     ∷ check 7 (eitherSide (λ o. reachesMost (p .most) (o .quantity) (o .limit)) q)
     ∷ check 8 (eitherSide (λ o. reachesMostAtReference (p .most) (o .quantity) reference) q)

@@ -41,7 +41,7 @@ pub fn order_refusal(
     if !allows_order(phase, validity) {
         return 4;
     }
-    if off_step(p.step, limit) {
+    if off_step(p.table, limit) {
         return 5;
     }
     if reaches_collar(reference, p.factor, limit) {

@@ -13,7 +13,7 @@ use terms::OrderValue;
 use terms::Parameters;
 use terms::Price;
 use terms::Quote;
-use terms::Step;
+use terms::Table;
 use terms::Validity;
 ghost use mathlib.Core.Path.{_≡_};
 ghost use Rattle.terms.specs.Quotes.{isCrossed};
@@ -36,14 +36,14 @@ fn is_crossed(q: Quote) -> bool
 }
 
 // 5
-fn either_off_step(step: Step, q: Quote) -> bool
-    ensures { λ r. ⌜ r ≡ eitherSide (λ o. offStep step (o .limit)) q ⌝ }
+fn either_off_step(table: Table, q: Quote) -> bool
+    ensures { λ r. ⌜ r ≡ eitherSide (λ o. offStep table (o .limit)) q ⌝ }
 {
     let bid = q.bid;
     let low = bid.limit;
     let ask = q.ask;
     let high = ask.limit;
-    off_step(step, Limit::At(low)) | off_step(step, Limit::At(high))
+    off_step(table, Limit::At(low)) | off_step(table, Limit::At(high))
 }
 
 // 6
@@ -102,7 +102,7 @@ pub fn quote_refusal(
     if !allows_order(phase, Validity::Day) {
         return 4;
     }
-    if either_off_step(p.step, q) {
+    if either_off_step(p.table, q) {
         return 5;
     }
     if either_reaches_collar(reference, p.factor, q) {

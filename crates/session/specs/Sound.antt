@@ -6,7 +6,8 @@ use native.Mathlib.Omega.{arith}
 use lib.Dec.{T}
 use Rattle.lists.specs.Tests.{and-both}
 use Rattle.terms.specs.Bounds.{maxNumber}
-use Rattle.terms.specs.Kinds.{isStep, isPrice, isReference, isFactor, isThreshold, isOrderValue}
+use Rattle.terms.specs.Kinds.{isPrice, isFactor, isThreshold, isOrderValue}
+use Rattle.terms.specs.Tables.{rowOf, onStep, isTable, isReference}
 use Rattle.terms.specs.Parameters.{areParameters}
 use Rattle.terms.specs.declared.kinds.{Price.Price}
 use Rattle.terms.specs.declared.parameters.{Parameters.Parameters}
@@ -18,9 +19,9 @@ use Rattle.controls.specs.Phases.{hasStarted}
 use Rattle.session.specs.declared.{Session.Session}
 use Rattle.session.specs.State.{freshSession, begun, withBook, passedOn, delayGiven}
 
--- the legal prices of a session: those that are multiples of its step
+-- the legal prices of a session: those on their step by its table (02 K6)
 abbrev pub legalPrice : Session → ℕ → Bool
-legalPrice s x = isReference (s .parameters .step .0) x
+legalPrice s x = isReference (s .parameters .table) x
 
 pub legal-in-range : (s : Session) (x : ℕ) → T (legalPrice s x) → T (isPrice x)
 legal-in-range s x h = and-both (isPrice x) _ h .0
@@ -39,6 +40,7 @@ pub number-room : (s : Session) → Sound s → s .given < numberRoom
 number-room s sound = omega (arith, sound .numbers-left)
 
 pub fresh-sound : Sound freshSession
+unfolding isTable rowOf onStep
 fresh-sound = record {
   fresh = λ e. refl;
   parameters-hold = tt;
@@ -67,7 +69,7 @@ module _ (s : Session) (sound : Sound s) where
         fresh = λ i. let z : _≡_ {A = ℕ} 0 1 = cc in absurd (omega arith);
         parameters-hold = holds;
         reference-holds =
-            reference-of (isStep (p .step .0)) (legalPrice (begun s p) (p .reference .0)) (isFactor (p .factor .0)) (isThreshold (p .threshold .0)) (isOrderValue (p .most .0)) holds;
+            reference-of (isTable (p .table)) (legalPrice (begun s p) (p .reference .0)) (isFactor (p .factor .0)) (isThreshold (p .threshold .0)) (isOrderValue (p .most .0)) holds;
         numbers-left = sound .numbers-left;
         book-sound = subst (λ (x : Session). SoundBook (legalPrice (begun s p)) (x .given) (x .book)) (sym same) (empty-sound (legalPrice (begun s p)) 0);
       }

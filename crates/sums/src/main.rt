@@ -5,8 +5,8 @@ use calls::Session;
 use libc::STDOUT_FILENO;
 use terms::Auction;
 use terms::Entry;
+use terms::OneStep;
 use terms::Side;
-use terms::Start;
 use terms::Validity;
 ghost use Rattle.session.specs.Sound.{Sound};
 
@@ -32,17 +32,16 @@ fn put_answer(r: AuctionAnswer) {
 fn started(reference: u32) -> Session
     ensures { λ r. ⌜ Sound r ⌝ }
 {
+    let asked = OneStep {
+        step: 100,
+        reference,
+        factor: 9,
+        threshold: 150,
+        most: 1_000_000_000_000,
+    };
+    let by_rows = asked.as_start();
     let fresh = Session::fresh();
-    let r = calls::start(
-        fresh,
-        Start {
-            step: 100,
-            reference,
-            factor: 9,
-            threshold: 150,
-            most: 1_000_000_000_000,
-        },
-    );
+    let r = calls::start(fresh, by_rows);
     let session = r.session;
     session
 }

@@ -25,13 +25,15 @@ use Rattle.answers.specs.SoundAfter.{auctioned-sound}
 use Rattle.answers.specs.Auctions.{auctionChecks, auctioned, outcomeOf, tradesNow}
 use Rattle.session.specs.State.{part}
 use Rattle.records.specs.declared.{kinds.Record.Record, kinds.Deletion.Deletion}
+use Rattle.records.specs.Walk.{Read, recordAt}
+use Rattle.records.specs.BandsRead.{BandsAt, recordIn, bands-record}
 use Rattle.lines.specs.Line.{lineOf, tradeLines, numberedLine, doneLine, quoteLine}
 use Rattle.lines.specs.Lengths.{lineRoom, tradeRoom, line-length, trades-room}
 use Rattle.lists.specs.Put.{Wrote, put-then}
 use Rattle.transcript.specs.declared.{Stepped.Stepped, Doing.Doing}
 use Rattle.transcript.specs.Transcript.{Step, step, stepLines, lent, orderStep, deleteStep, quoteStep}
 use Rattle.terms.specs.declared.kinds.{Price.Price}
-use Rattle.terms.specs.declared.parameters.{Parameters.Parameters}
+use Rattle.terms.specs.declared.parameters.{Start.Start, Parameters.Parameters}
 use Rattle.controls.specs.declared.phases.{Phase.Phase}
 use Rattle.effects.specs.declared.{Change.Change, Effect.Effect}
 use Rattle.effects.specs.Effects.{orderEffect, deleteEffect, order-place, order-plain, delete-place, delete-plain}
@@ -78,6 +80,7 @@ step-trades s (Record.Start p) = omega arith
 step-trades s (Record.Order e) = omega arith
 step-trades s (Record.Delete d) = omega arith
 step-trades s (Record.Quote e) = omega arith
+step-trades s (Record.Bands p) = omega arith
 step-trades s (Record.Auction which) =
     answered-cases (auctionChecks s which tradeListLength) (λ n. []) (tradesNow s (auctionFrom which)) (λ (ts : List Trade). length ts ≤ maxTrades)
     (λ n h e. omega arith) (λ e. trades-few s (auctionFrom which))
@@ -93,6 +96,7 @@ step-sound s (Record.Order e) h = entered-sound s e h
 step-sound s (Record.Delete d) h = deleted-sound s (d .number) (d .member) h
 step-sound s (Record.Auction which) h = auctioned-sound s which lent h
 step-sound s (Record.Quote e) h = quoted-sound s e h
+step-sound s (Record.Bands p) h = started-sound s p h
 
 abbrev pub orderDoing : Effect → Doing
 orderDoing (Effect.Refused n) = Doing.Refused Word.Order n
@@ -118,6 +122,7 @@ doingOf (Record.Order e) phase parameters reference given taken numbers members 
 doingOf (Record.Delete d) phase parameters reference given taken numbers members quoted sides = deleteDoing (deleteEffect phase given taken (placeIn taken numbers members (d .number) (d .member) 0 places) (d .number) (d .member))
 doingOf (Record.Auction which) phase parameters reference given taken numbers members quoted sides = Doing.Auction which
 doingOf (Record.Quote e) phase parameters reference given taken numbers members quoted sides = quoteDoing (quoteEffect phase parameters reference false given taken (oldPair quoted members sides (e .member)) e)
+doingOf (Record.Bands p) phase parameters reference given taken numbers members quoted sides = Doing.Bands
 
 abbrev pub doingIn : Session → Record → Doing
 doingIn s r = doingOf r (s .phase) (s .parameters) (controlReference s) (s .given) (s .book .taken) (s .book .number) (s .book .member) (s .book .quoted) (s .book .side)
@@ -133,6 +138,7 @@ Does s r (Doing.Done w c) = (quiet (changed s c) (doneLine w (c .given)) ≡ ste
 Does s r (Doing.Quoted c) = (quiet (requotedIn s c) (quoteLine (c .bid .number) (c .ask .number)) ≡ step s r) × ((c .fresh .bid < places) × (c .fresh .ask < places)) × TwoSides c
 Does s r (Doing.Start p) = r ≡ Record.Start p
 Does s r (Doing.Auction which) = r ≡ Record.Auction which
+Does s r Doing.Bands = (p : Start) × (r ≡ Record.Bands p)
 
 -- what a record does is what its call answers and leaves
 pub does : (s : Session) → Sound s → (r : Record) → Does s r (doingIn s r)
@@ -150,10 +156,18 @@ does s sound (Record.Quote e) = go (quoteIn s e) (quoted-by s e sound) (λ c h. 
   go : (f : QuoteEffect) → quotedBy s f ≡ quoted s e → ((c : QuoteChange) → f ≡ QuoteEffect.Done c → ((c .fresh .bid < places) × (c .fresh .ask < places)) × TwoSides c) → Does s (Record.Quote e) (quoteDoing f)
   go (QuoteEffect.Refused n) h p = ap quoteStep h
   go (QuoteEffect.Done c) h p = (ap quoteStep h, p c refl .0, p c refl .1)
+does s sound (Record.Bands p) = (p, refl)
 
 -- .. found from the parts
 pub does-found : (s : Session) → Sound s → (r : Record) {d : Doing} → d ≡ doingIn s r → Does s r d
 does-found s sound r h = rw h (does s sound r)
+
+-- a start by bands stands there, and is what is read there (02 K6)
+pub bands-told : (bytes : List ℕ) (place next : ℕ) {r : Record} → recordAt bytes place ≡ Read.Record r next → (p : Start) × (r ≡ Record.Bands p)
+    → BandsAt bytes place × (r ≡ recordIn bytes place)
+bands-told bytes place next e w =
+    let b : BandsAt bytes place = record { start = w .0; behind = next; stands = e ∙ ap (λ (r : Record). Read.Record r next) (w .1) } in
+    (b, w .1 ∙ sym (bands-record bytes place b))
 
 -- a record's lines are those of the record that it is
 pub wrote-as : (s : Session) (place at : ℕ) (old out : List ℕ) (done : Stepped) {r q : Record} → r ≡ q

@@ -5,6 +5,7 @@ use mathlib.Core.List.{List, [], _∷_, _++_}
 use lib.ListN.{replicate}
 use Rattle.terms.specs.Bounds.{tradeListLength}
 use Rattle.terms.specs.Orders.{auctionFrom}
+use Rattle.terms.specs.Parameters.{startWith}
 use Rattle.trades.specs.declared.{Trade.Trade}
 use Rattle.session.specs.declared.{Session.Session}
 use Rattle.entries.specs.declared.{Started.Started, Entered.Entered, Deleted.Deleted}
@@ -56,11 +57,12 @@ abbrev pub auctionStep : Auctioned → List Trade → Step
 auctionStep r trades = record { session = r .session; line = auctionLine (r .answer) (r .result); trades = trades }
 
 abbrev pub step : Session → Record → Step
-step s (Record.Start p) = startStep (started s p)
+step s (Record.Start p) = startStep (started s (startWith p))
 step s (Record.Order e) = orderStep (entered s e)
 step s (Record.Delete d) = deleteStep (deleted s (d .number) (d .member))
 step s (Record.Auction which) = auctionStep (auctioned s which lent .returned) (tradesAnswered s which)
 step s (Record.Quote e) = quoteStep (quoted s e)
+step s (Record.Bands p) = startStep (started s p)
 
 -- the lines of a record, at its place from 1
 abbrev pub stepLines : ℕ → Step → List ℕ

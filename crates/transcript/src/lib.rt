@@ -10,7 +10,7 @@ use session::Session;
 pub use steps::auction_line;
 pub use tell::next_told;
 pub use tell::records_told;
-use terms::Start;
+use terms::OneStep;
 
 // A session after a record whose lines are written, and the place behind them.
 pub struct Stepped {
@@ -42,11 +42,13 @@ pub struct Telling {
 }
 
 // What a record does: an answer with nothing, or with a change at a place, or with a quote's, or a call by value. A refusal's answer is as wide as
-// a change's place, so that the two lie in the same bytes and the compiler keeps both in registers.
+// a change's place, so that the two lie in the same bytes and the compiler keeps both in registers. A start by bands is read again where it is carried
+// out: with its table in here, every record would be moved in as many bytes (02 K6).
 pub enum Doing {
     Refused(Word, u64),
     Done(Word, Change),
     Quoted(QuoteChange),
-    Start(Start),
+    Start(OneStep),
     Auction(u8),
+    Bands,
 }

@@ -19,7 +19,9 @@ use quotes::Pair;
 use quotes::QUOTE_HINTS;
 use quotes::quote_place_by_hint;
 use records::Record;
+use records::bands_from;
 use session::Session;
+use terms::OneStep;
 use terms::Parameters;
 use terms::Place;
 use terms::Price;
@@ -29,7 +31,8 @@ ghost use mathlib.Core.Path.{_≡_};
 ghost use Prim.Native.Nat.{_+_, _≤_};
 ghost use lib.ListN.{length};
 ghost use Rattle.terms.specs.Bounds.{tradeListLength};
-ghost use Rattle.records.specs.declared.kinds.Record.the-variants.{Start as Start·record, Auction as Auction·record};
+ghost use Rattle.records.specs.declared.kinds.Record.the-variants.{Start as Start·record, Auction as Auction·record, Bands as Bands·record};
+ghost use Rattle.records.specs.BandsRead.{BandsAt, recordIn};
 ghost use Rattle.book.specs.Hints.{Numbered};
 ghost use Rattle.session.specs.Sound.{Sound};
 ghost use Rattle.lines.specs.Lengths.{lineRoom};
@@ -120,18 +123,14 @@ pub(crate) fn doing_of<'a>(
             let old = old_pair(quoted, members, sides, bids, asks, e.member);
             quote_doing(quote_effect(phase, parameters, reference, false, given, taken, old, e))
         }
+        Record::Bands(_) => Doing::Bands,
     }
 }
 
-pub(crate) fn start_written(
-    session: Session,
-    p: Start,
-    place: u64,
-    out: &mut [u8],
-    at: usize,
-) -> Stepped
+// By its table, whatever the record's kind.
+fn table_written(session: Session, p: Start, place: u64, out: &mut [u8], at: usize) -> Stepped
     requires { ⌜ Sound session × (at + lineRoom ≤ length (now out)) ⌝ }
-    ensures { λ r. ⌜ WroteStep place (now (out .entry)) (now (out .exit)) at r (step session (Start·record p)) ⌝ }
+    ensures { λ r. ⌜ WroteStep place (now (out .entry)) (now (out .exit)) at r (step session (Bands·record p)) ⌝ }
 {
     let r = calls::start(session, p);
     let end = line_of(
@@ -145,6 +144,35 @@ pub(crate) fn start_written(
         session: next,
         at: end,
     }
+}
+
+// One step for all prices.
+pub(crate) fn start_written(
+    session: Session,
+    p: OneStep,
+    place: u64,
+    out: &mut [u8],
+    at: usize,
+) -> Stepped
+    requires { ⌜ Sound session × (at + lineRoom ≤ length (now out)) ⌝ }
+    ensures { λ r. ⌜ WroteStep place (now (out .entry)) (now (out .exit)) at r (step session (Start·record p)) ⌝ }
+{
+    table_written(session, p.as_start(), place, out, at)
+}
+
+// A start by bands, read from where it stands (02 K6).
+pub(crate) fn bands_written(
+    session: Session,
+    bytes: &[u8],
+    from: usize,
+    place: u64,
+    out: &mut [u8],
+    at: usize,
+) -> Stepped
+    requires { ⌜ Sound session × (at + lineRoom ≤ length (now out)) × BandsAt (now bytes) from ⌝ }
+    ensures { λ r. ⌜ WroteStep place (now (out .entry)) (now (out .exit)) at r (step session (recordIn (now (bytes .entry)) from)) ⌝ }
+{
+    table_written(session, bands_from(bytes, from), place, out, at)
 }
 
 pub fn auction_line(answer: u8, result: AuctionAnswer) -> Line

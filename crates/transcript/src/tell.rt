@@ -4,6 +4,7 @@ use crate::Next;
 use crate::Stop;
 use crate::Telling;
 use crate::steps::auction_written;
+use crate::steps::bands_written;
 use crate::steps::doing_of;
 use crate::steps::start_written;
 use book::HINTS;
@@ -99,6 +100,7 @@ pub fn records_told(
         let next = next_told(bytes, place, ended, out.len() - at);
         match next {
             Next::Record(record, behind) => {
+                let from = place;
                 count += 1;
                 place = behind;
                 let doing = doing_of(
@@ -183,6 +185,26 @@ pub fn records_told(
                     }
                     Doing::Auction(which) => {
                         let r = auction_written(present, which, list, count, out, at);
+                        let later = r.session;
+                        present = later;
+                        at = r.at;
+                        quote_hint_all(
+                            &mut bids,
+                            &present.book.quoted,
+                            &present.book.member,
+                            &present.book.side,
+                            Side::BUY,
+                        );
+                        quote_hint_all(
+                            &mut asks,
+                            &present.book.quoted,
+                            &present.book.member,
+                            &present.book.side,
+                            Side::SELL,
+                        );
+                    }
+                    Doing::Bands => {
+                        let r = bands_written(present, bytes, from, count, out, at);
                         let later = r.session;
                         present = later;
                         at = r.at;

@@ -1,4 +1,5 @@
 -- Computing: every definition that stays shut by itself, so that a worked example can say `unfolding computing` and hold by `refl`.
+use Rattle.terms.specs.Tables.{rowOf, onStep, isTable}
 use Rattle.lists.specs.Sums.{apart}
 use Rattle.places.specs.Places.{bit, least, total, marked, unmarked}
 use Rattle.book.specs.Columns.{stored, cleared}
@@ -21,5 +22,5 @@ use Rattle.foresight.specs.Theoretical.{theoretical}
 use Rattle.standings.specs.Queues.{queued, filledFront}
 
 unfoldable pub computing : Unit {0}
-unfolding apart bit least total marked unmarked stored cleared restingTo firstOf changedTo takingPart ranked front interest mostExecutable auctionPrice traded fills tradesOf nonOpening outcome restOf firstHit started entered deleted quoted outcomeOf auctioned theoretical queued filledFront
+unfolding isTable rowOf onStep apart bit least total marked unmarked stored cleared restingTo firstOf changedTo takingPart ranked front interest mostExecutable auctionPrice traded fills tradesOf nonOpening outcome restOf firstHit started entered deleted quoted outcomeOf auctioned theoretical queued filledFront
 computing = tt

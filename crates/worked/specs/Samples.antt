@@ -3,6 +3,7 @@ use Prim.Native.Nat.{ℕ}
 use mathlib.Core.List.{List, [], _∷_}
 use lib.ListN.{replicate}
 use Rattle.terms.specs.Bounds.{tradeListLength}
+use Rattle.terms.specs.Parameters.{startWith}
 use Rattle.terms.specs.declared.orders.{Entry.Entry}
 use Rattle.session.specs.declared.{Session.Session}
 use Rattle.courses.specs.declared.{AuctionAnswer.AuctionAnswer}
@@ -12,7 +13,7 @@ use Rattle.answers.specs.Auctions.{auctioned}
 
 -- step 100, factor 9, threshold 150, maximum 1,000,000,000,000, and a reference price
 abbrev pub startedAt : ℕ → Session
-startedAt reference = started freshSession (record { step = 100; reference = reference; factor = 9; threshold = 150; most = 1_000_000_000_000 }) .session
+startedAt reference = started freshSession (startWith (record { step = 100; reference = reference; factor = 9; threshold = 150; most = 1_000_000_000_000 })) .session
 
 -- an entry of member 7: side (1 buy, 2 sell), validity, quantity, limit (0 unlimited)
 abbrev pub entry : ℕ → ℕ → ℕ → ℕ → Entry

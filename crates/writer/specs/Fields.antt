@@ -1,4 +1,4 @@
--- A record's bytes as its code writes them: its header as one number of four bytes, then field by field; a number as its lower half and its higher one.
+-- A record's bytes as its code writes them: its header, then field by field; a number as its lower half and its higher one.
 use Prim.Native.Nat.{ℕ, _+_, _/_, _%_, _^_, _≤_}
 use mathlib.Core.Path.{_≡_, refl, sym, subst}
 use mathlib.Core.List.{List, [], _∷_, append-nil}
@@ -6,22 +6,22 @@ use native.Mathlib.Omega.{arith}
 use lib.ListN.{length}
 use Rattle.lists.specs.Put.{Wrote, put-length, put-then}
 use Rattle.records.specs.declared.{kinds.Record.Record}
-use Rattle.records.specs.Fields.{headerLength, widths, layoutLength}
+use Rattle.records.specs.Fields.{headerLength, layoutLength}
 use Rattle.records.specs.Layout.{numberBytes, bytesOf, bytes-count}
-use Rattle.records.specs.Lengths.{headOf}
-use Rattle.records.specs.Bytes.{kindOf, lengthOf, headerBytes, fieldBytes, recordBytes}
+use Rattle.records.specs.Bytes.{widthsOf, lengthOf, headerBytes, fieldBytes, recordBytes}
 use Rattle.writer.specs.Numbers.{halves}
 
 width : (w n : ℕ) → length (numberBytes w n) ≡ w
 width w n = let e = rw (append-nil (numberBytes w n)) at (bytes-count (w ∷ []) (n ∷ []) refl) in omega (arith, e)
 
--- a kind's header as the reader takes it, and the length that it says
-header : (x : Record) → (numberBytes headerLength (headOf (kindOf x)) ≡ headerBytes x) × (lengthOf x ≡ headerLength + layoutLength (widths (kindOf x)))
-header (Record.Start p) = (refl, refl)
-header (Record.Order e) = (refl, refl)
-header (Record.Delete d) = (refl, refl)
-header (Record.Auction which) = (refl, refl)
-header (Record.Quote q) = (refl, refl)
+-- a record's length is its header's and its fields'
+parts : (x : Record) → lengthOf x ≡ headerLength + layoutLength (widthsOf x)
+parts (Record.Start p) = refl
+parts (Record.Order e) = refl
+parts (Record.Delete d) = refl
+parts (Record.Auction which) = refl
+parts (Record.Quote q) = refl
+parts (Record.Bands s) = refl
 
 module _ (old one new : List ℕ) (at p r : ℕ) where
   -- room for a text and so many bytes more is room for these behind the text
@@ -46,14 +46,12 @@ module _ (old one new : List ℕ) (at p r : ℕ) where
       (later (room-behind (numberBytes w n) (layoutLength ws) (omega (arith, s)) first))
 
   -- the header, and the fields
-  pub header-then : (x : Record) → at + lengthOf x ≤ length old → Wrote old one at p (numberBytes headerLength (headOf (kindOf x)))
-      → (p + layoutLength (widths (kindOf x)) ≤ length one → Wrote one new p r (fieldBytes x)) → Wrote old new at r (recordBytes x)
+  pub header-then : (x : Record) → at + lengthOf x ≤ length old → Wrote old one at p (headerBytes x)
+      → (p + layoutLength (widthsOf x) ≤ length one → Wrote one new p r (fieldBytes x)) → Wrote old new at r (recordBytes x)
   unfolding recordBytes
   header-then x room first later =
-      let h = header x in
-      let s = width headerLength (headOf (kindOf x)) in
-      put-then old one new at p r (headerBytes x) (fieldBytes x) (omega arith) (subst (λ (t : List ℕ). Wrote old one at p t) (h .0) first)
-      (later (room-behind (numberBytes headerLength (headOf (kindOf x))) (layoutLength (widths (kindOf x))) (omega (arith, s, h .1)) first))
+      put-then old one new at p r (headerBytes x) (fieldBytes x) (omega arith) first
+      (later (room-behind (headerBytes x) (layoutLength (widthsOf x)) (omega (arith, parts x)) first))
 
 -- the last field
 pub field-last : (old new : List ℕ) (at r w n : ℕ) → Wrote old new at r (numberBytes w n) → Wrote old new at r (bytesOf (w ∷ []) (n ∷ []))

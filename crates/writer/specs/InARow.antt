@@ -75,6 +75,6 @@ pub good-file-written : (file : List ℕ) → ((i : ℕ) → getD file i 0 < 256
     → (buffer : List ℕ) → length file ≤ length buffer
     → writtenAll (walk file .records) buffer 0 ≡ record { returned = record { answer = 0; place = length file }; buffer = put buffer 0 file }
 good-file-written file small good ranged buffer room =
-    let back = good-file-back file small good in
+    let back = good-file-back file small good ranged in
     let e : 0 + length file ≡ length file = omega arith in
     rw (back, e) at (written-in-a-row (walk file .records) buffer 0 ranged (rw back (omega arith)))

@@ -7,4 +7,5 @@ pub mod InARow
 -- as the code computes it
 pub mod Numbers
 pub mod Fields
+pub mod Rows
 pub mod WriteCall

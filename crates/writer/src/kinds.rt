@@ -8,25 +8,54 @@ use records::Deletion;
 use records::Kind;
 use records::Record;
 use terms::Entry;
+use terms::OneStep;
 use terms::QuoteEntry;
+use terms::Row;
 use terms::Start;
+use terms::Table;
 ghost use mathlib.Core.Path.{_≡_};
 ghost use Prim.Native.Nat.{_+_, _≤_};
-ghost use lib.ListN.{length};
+ghost use lib.Dec.{T};
+ghost use lib.ListN.{length, drop};
 ghost use Rattle.lists.specs.Put.{Wrote};
-ghost use Rattle.records.specs.Fields.{kindLength};
+ghost use Rattle.terms.specs.Bounds.{maxRows};
+ghost use Rattle.terms.specs.Tables.{allRows};
+ghost use Rattle.records.specs.Fields.{rowWidths, layoutLength, kindLength, inRange};
 ghost use Rattle.records.specs.Bytes.{lengthOf, recordBytes};
+ghost use Rattle.writer.specs.Rows.{laterBytes, rowBytes, rowsBytes, rowsRoom, RowsWrote};
 
-fn put_start(out: &mut [u8], at: usize, start: Start) -> usize
+// The fields that stand behind a start's step, or behind its rows.
+fn put_later(
+    out: &mut [u8],
+    at: usize,
+    reference: u32,
+    factor: u16,
+    threshold: u16,
+    most: u64,
+) -> usize
+    requires { ⌜ at + layoutLength (rowWidths 0) ≤ length (now out) ⌝ }
+    ensures { λ r. ⌜ Wrote (now (out .entry)) (now (out .exit)) at r (laterBytes reference factor threshold most) ⌝ }
+{
+    let p = put_four(out, at, reference);
+    let q = put_two(out, p, factor);
+    let r = put_two(out, q, threshold);
+    put_eight(out, r, most)
+}
+
+fn put_start(out: &mut [u8], at: usize, start: OneStep) -> usize
     requires { ⌜ at + kindLength 1 ≤ length (now out) ⌝ }
     ensures { λ r. ⌜ Wrote (now (out .entry)) (now (out .exit)) at r (recordBytes (Record.Start start)) ⌝ }
 {
     let p = put_four(out, at, Kind::START_HEAD);
     let q = put_four(out, p, start.step);
-    let r = put_four(out, q, start.reference);
-    let s = put_two(out, r, start.factor);
-    let t = put_two(out, s, start.threshold);
-    put_eight(out, t, start.most)
+    put_later(
+        out,
+        q,
+        start.reference,
+        start.factor,
+        start.threshold,
+        start.most,
+    )
 }
 
 fn put_order(out: &mut [u8], at: usize, entry: Entry) -> usize
@@ -73,6 +102,63 @@ fn put_quote(out: &mut [u8], at: usize, entry: QuoteEntry) -> usize
     put_four(out, t, ask.limit)
 }
 
+// A row, if it is counted (02 K6).
+fn put_row(out: &mut [u8], at: usize, count: u16, index: u16, row: Row) -> usize
+    requires { ⌜ at + rowsRoom count index ≤ length (now out) ⌝ }
+    ensures { λ r. ⌜ RowsWrote (now (out .entry)) (now (out .exit)) at r (rowBytes count index row) count index (index + 1) ⌝ }
+{
+    if count <= index {
+        return at;
+    }
+    let p = put_four(out, at, row.lowest);
+    put_four(out, p, row.step)
+}
+
+// The rows behind the fourth: apart, since a proof finds the room of only so many calls by itself.
+fn put_upper_rows(out: &mut [u8], at: usize, table: Table) -> usize
+    requires { ⌜ at + rowsRoom (table .count) 4 ≤ length (now out) ⌝ }
+    ensures { λ r. ⌜ RowsWrote (now (out .entry)) (now (out .exit)) at r (rowsBytes 4 (table .count) (drop 4 (allRows table))) (table .count) 4 maxRows ⌝ }
+{
+    let count = table.count;
+    let p = put_row(out, at, count, 4, table.fifth);
+    let q = put_row(out, p, count, 5, table.sixth);
+    let r = put_row(out, q, count, 6, table.seventh);
+    put_row(out, r, count, 7, table.eighth)
+}
+
+fn put_rows(out: &mut [u8], at: usize, table: Table) -> usize
+    requires { ⌜ at + rowsRoom (table .count) 0 ≤ length (now out) ⌝ }
+    ensures { λ r. ⌜ RowsWrote (now (out .entry)) (now (out .exit)) at r (rowsBytes 0 (table .count) (allRows table)) (table .count) 0 maxRows ⌝ }
+{
+    let count = table.count;
+    let p = put_row(out, at, count, 0, table.first);
+    let q = put_row(out, p, count, 1, table.second);
+    let r = put_row(out, q, count, 2, table.third);
+    let s = put_row(out, r, count, 3, table.fourth);
+    put_upper_rows(out, s, table)
+}
+
+// A start by bands (02 K6), of no more rows than a table has. Its length goes by them, so that its header is written as length and kind.
+fn put_bands(out: &mut [u8], at: usize, start: Start) -> usize
+    requires { ⌜ (at + lengthOf (Record.Bands start) ≤ length (now out)) × T (inRange (Record.Bands start)) ⌝ }
+    ensures { λ r. ⌜ Wrote (now (out .entry)) (now (out .exit)) at r (recordBytes (Record.Bands start)) ⌝ }
+{
+    let table = start.table;
+    let count = table.count;
+    let p = put_two(out, at, Kind::bands_length(count) as u16);
+    let q = put_two(out, p, Kind::BANDS);
+    let r = put_two(out, q, count);
+    let s = put_rows(out, r, table);
+    put_later(
+        out,
+        s,
+        start.reference,
+        start.factor,
+        start.threshold,
+        start.most,
+    )
+}
+
 // How many bytes a record has, with its header.
 pub(crate) fn length_of(record: Record) -> usize
     ensures { λ r. ⌜ r ≡ lengthOf «record» ⌝ }
@@ -83,11 +169,12 @@ pub(crate) fn length_of(record: Record) -> usize
         Record::Delete(_) => Kind::DELETE_LENGTH,
         Record::Auction(_) => Kind::AUCTION_LENGTH,
         Record::Quote(_) => Kind::QUOTE_LENGTH,
+        Record::Bands(start) => Kind::bands_length(start.table.count),
     }
 }
 
 pub(crate) fn put_record(out: &mut [u8], at: usize, record: Record) -> usize
-    requires { ⌜ at + lengthOf «record» ≤ length (now out) ⌝ }
+    requires { ⌜ (at + lengthOf «record» ≤ length (now out)) × T (inRange «record») ⌝ }
     ensures { λ r. ⌜ Wrote (now (out .entry)) (now (out .exit)) at r (recordBytes «record») ⌝ }
 {
     match record {
@@ -96,5 +183,6 @@ pub(crate) fn put_record(out: &mut [u8], at: usize, record: Record) -> usize
         Record::Delete(deletion) => put_delete(out, at, deletion),
         Record::Auction(which) => put_auction(out, at, which),
         Record::Quote(entry) => put_quote(out, at, entry),
+        Record::Bands(start) => put_bands(out, at, start),
     }
 }

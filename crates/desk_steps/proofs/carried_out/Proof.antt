@@ -6,6 +6,9 @@ use Rattle.desk_steps.proofs.carried_out.Tie as tie
 enum-known-asked : tie.Need-enum-known-asked
 enum-known-asked c = search needs
 
+as-start-requires : tie.Need-as-start-requires
+as-start-requires c κs = search needs
+
 started-requires : tie.Need-started-requires
 started-requires c κs = search needs
 
@@ -33,13 +36,19 @@ enum-known-asked-5 c = search needs
 quoted-requires : tie.Need-quoted-requires
 quoted-requires c κs = search needs
 
+enum-known-asked-6 : tie.Need-enum-known-asked-6
+enum-known-asked-6 c = search needs
+
+started-requires-2 : tie.Need-started-requires-2
+started-requires-2 c κs = search needs
+
 same-length : tie.Need-same-length
 same-length c = search needs
 
 returns : tie.Need-returns
 returns c =
     let call = c .before .before in
-    rw (call .before .before .before .asked .given .1) (call .started .ensures)
+    rw (call .before .before .before .before .asked .given .1) (rw (call .before .before .as-start .ensures) at (call .started .ensures))
 
 same-length-2 : tie.Need-same-length-2
 same-length-2 c = search needs
@@ -76,11 +85,20 @@ returns-5 c =
     let call = c .before .before in
     rw (call .before .before .before .asked5 .given .1) (call .quoted .ensures)
 
+same-length-7 : tie.Need-same-length-7
+same-length-7 c = search needs
+
+returns-6 : tie.Need-returns-6
+returns-6 c =
+    let call = c .before .before in
+    rw (call .before .before .before .asked6 .given .1) (call .started2 .ensures)
+
 pub carried-out-spec : {M : Type 1} → statement M
 carried-out-spec =
     tie.close
     (tie.spec
     enum-known-asked
+    as-start-requires
     started-requires
     enum-known-asked-2
     entered-requires
@@ -90,6 +108,8 @@ carried-out-spec =
     auctioned-requires
     enum-known-asked-5
     quoted-requires
+    enum-known-asked-6
+    started-requires-2
     same-length
     returns
     same-length-2
@@ -100,4 +120,6 @@ carried-out-spec =
     same-length-5
     returns-4
     same-length-6
-    returns-5)
+    returns-5
+    same-length-7
+    returns-6)

@@ -56,7 +56,7 @@ add-t18 c =
     omega (arith, returned t .place-within, fetched t .next-held .ensures .0 .1, start t .pre .2)
 
 same-length : tie.Need-same-length
-same-length c = search needs
+same-length c = fetched (c .before .before .before .before .before .before) .next-held .kept .0
 
 same-length-2 : tie.Need-same-length-2
 same-length-2 c = search needs

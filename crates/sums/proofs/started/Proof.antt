@@ -6,6 +6,9 @@ use Rattle.entries.specs.declared.{Started.Started}
 use Rattle.sums.proofs.started.Statement.{statement}
 use Rattle.sums.proofs.started.Tie as tie
 
+as-start-requires : tie.Need-as-start-requires
+as-start-requires c κs = search needs
+
 fresh-requires : tie.Need-fresh-requires
 fresh-requires c κs = search needs
 
@@ -18,4 +21,4 @@ returns c =
     (started-sound _ _ (subst Sound (sym (c .before .before .fresh .ensures)) fresh-sound))
 
 pub started-spec : {M : Type 1} → statement M
-started-spec = tie.close (tie.spec fresh-requires start-requires returns)
+started-spec = tie.close (tie.spec as-start-requires fresh-requires start-requires returns)

@@ -47,7 +47,9 @@ returns-2 c =
     write-too-long (a .«record») (a .buffer .now) (a .place) (good k) (not-false _ (sym (rw (h .before .length-of .ensures) at (h .has-room .ensures)) ∙ not-true _ (c .if2 .taken)))
 
 put-record-requires : tie.Need-put-record-requires
-put-record-requires c κs = ltb-false _ _ (room (c .before))
+put-record-requires c κs =
+    let k = c .before .before .before .before .before in
+    (ltb-false _ _ (room (c .before)), rw (good k) tt)
 
 same-length-2 : tie.Need-same-length-2
 same-length-2 c = search needs

@@ -8,14 +8,14 @@ enum-told c = search needs
 enum-known-limit : tie.Need-enum-known-limit
 enum-known-limit c = search needs
 
-divides-requires : tie.Need-divides-requires
-divides-requires c κs = search needs
+on-step-requires : tie.Need-on-step-requires
+on-step-requires c κs = search needs
 
 returns : tie.Need-returns
-returns c = search needs
+returns c = rw (c .enum-told .given .1)
 
 returns-2 : tie.Need-returns-2
-returns-2 c = rw (c .before .before .limit .given .1, c .divides .ensures)
+returns-2 c = rw (c .before .before .limit .given .1, c .on-step .ensures)
 
 pub off-step-spec : {M : Type 1} → statement M
-off-step-spec = tie.close (tie.spec enum-told enum-known-limit divides-requires returns returns-2)
+off-step-spec = tie.close (tie.spec enum-told enum-known-limit on-step-requires returns returns-2)

@@ -1,7 +1,8 @@
-use mathlib.Core.Path.{sym, _∙_}
+use Prim.Native.Nat.{ℕ}
+use mathlib.Core.Path.{_≡_, sym, _∙_}
+use Rattle.records.specs.Lengths.{headOf, of-known}
 use native.Mathlib.Omega.{arith}
 use borrow.Author.Needs.{needs}
-use Rattle.records.specs.Headers.{header-bad}
 use Rattle.records.proofs.kinds.header_at.Statement.{statement}
 use Rattle.records.proofs.kinds.header_at.Tie as tie
 
@@ -23,6 +24,15 @@ auction-at-requires c κs = record { whole = omega arith; head = sym (c .before 
 quote-at-requires : tie.Need-quote-at-requires
 quote-at-requires c κs = record { whole = omega arith; head = sym (c .before .four .ensures) ∙ c .match .keys5 }
 
+bands-at-requires : tie.Need-bands-at-requires
+bands-at-requires c κs =
+    let rest = c .match .rest in
+    record {
+      whole = omega arith;
+      says = c .before .four .ensures;
+      other = of-known (λ (kind : ℕ). c .before .four .result ≡ headOf kind → ⊥) (rest .0 .0 .0 .0 .1) (rest .0 .0 .0 .1) (rest .0 .0 .1) (rest .0 .1) (rest .1);
+    }
+
 returns : tie.Need-returns
 returns c = c .start-at .ensures
 
@@ -39,9 +49,7 @@ returns-5 : tie.Need-returns-5
 returns-5 c = c .quote-at .ensures
 
 returns-6 : tie.Need-returns-6
-returns-6 c =
-    let rest = c .match .rest in
-    header-bad _ _ (c .before .four .ensures) (rest .0 .0 .0 .0 .1) (rest .0 .0 .0 .1) (rest .0 .0 .1) (rest .0 .1) (rest .1)
+returns-6 c = c .bands-at .ensures
 
 pub header-at-spec : {M : Type 1} → statement M
 header-at-spec =
@@ -53,6 +61,7 @@ header-at-spec =
     delete-at-requires
     auction-at-requires
     quote-at-requires
+    bands-at-requires
     returns
     returns-2
     returns-3

@@ -41,6 +41,9 @@ quote-effect-requires c κs = search needs
 quote-doing-requires : tie.Need-quote-doing-requires
 quote-doing-requires c κs = search needs
 
+enum-told : tie.Need-enum-told
+enum-told c = search needs
+
 returns : tie.Need-returns
 returns c = rw (c .before .asked .given .1)
 
@@ -55,6 +58,9 @@ returns-4 c = rw (c .before .asked4 .given .1)
 
 returns-5 : tie.Need-returns-5
 returns-5 c = rw (c .before .before .before .before .asked5 .given .1) (rw (c .before .quote-effect .ensures, c .before .before .old-pair .ensures) at (c .quote-doing .ensures))
+
+returns-6 : tie.Need-returns-6
+returns-6 c = rw (c .enum-told .given .1)
 
 pub doing-of-spec : {M : Type 1} → statement M
 doing-of-spec =
@@ -73,8 +79,10 @@ doing-of-spec =
     old-pair-requires
     quote-effect-requires
     quote-doing-requires
+    enum-told
     returns
     returns-2
     returns-3
     returns-4
-    returns-5)
+    returns-5
+    returns-6)

@@ -9,9 +9,10 @@ use Rattle.session.specs.Sound.{legalPrice}
 use Rattle.lines.specs.Line.{numberedLine, doneLine, quoteLine}
 use Rattle.entries.specs.Changes.{changed, stored-as}
 use Rattle.quotation.specs.QuoteCall.{requotedIn, requoted-as}
-use Rattle.transcript.specs.declared.{Stepped.Stepped}
+use Rattle.records.specs.BandsRead.{BandsAt, recordIn}
+use Rattle.transcript.specs.declared.{Stepped.Stepped, Doing.Doing}
 use Rattle.transcript.specs.Transcript.{step}
-use Rattle.transcript.specs.Steps.{recordRoom, WroteStep, wrote-alone, quiet, does-found, wrote-as}
+use Rattle.transcript.specs.Steps.{recordRoom, WroteStep, wrote-alone, quiet, does-found, bands-told, wrote-as}
 use Rattle.transcript.specs.TellLaws.{next-record}
 use Rattle.transcript.specs.InPlace.{HintedIn, quotes-known, still-hinted, quote-hinted}
 use Rattle.transcript.specs.Underway.{Underway, underway-first, underway-next, underway-stop}
@@ -56,6 +57,17 @@ next : (c : tie.After-known-told Inv-loop μ-loop) → {done : Stepped} {out : L
 next c w long =
     let a = begun (turn c) .args in
     underway-next (a .ended) (a .bytes .now) (a .out .now) (a .t1) (a .answered) (turn c .loop .inv .0) (sym (c .before .next .given .1) ∙ c .before .before .before .next-told .ensures) w long
+
+-- a start by bands stands at the place, and is what is read there
+stands : (d : tie.After-doing-of Inv-loop μ-loop) → d .doing-of .result ≡ Doing.Bands → let k = asked d in let l = turn k .loop in let bytes = begun (turn k) .args .bytes .now in
+    BandsAt bytes (l .place) × (k .before .next .given .0 .0 ≡ recordIn bytes (l .place))
+stands d e =
+    let k = asked d in
+    let l = turn k .loop in
+    let a = begun (turn k) .args in
+    let does = does-found (l .present) (l .inv .0 .sound) (k .before .next .given .0 .0) (sym e ∙ d .doing-of .ensures) in
+    let there = next-record (a .bytes .now) (l .place) (a .ended) (length (l .out) - l .at) (sym (k .before .before .before .next-told .ensures) ∙ k .before .next .given .1) .3 in
+    bands-told (a .bytes .now) (l .place) (k .before .next .given .0 .1 .0) there does
 
 -- a change is at a place
 in-book : (c : tie.After-doing2 Inv-loop μ-loop) → c .doing2 .given .0 .1 .0 .place < places
@@ -327,6 +339,40 @@ loop-again-5 c =
       c .quote-hint-all6 .ensures,
     )
 
+enum-told : tie.Need-enum-told Inv-loop μ-loop
+enum-told c = search needs
+
+bands-written-requires : tie.Need-bands-written-requires Inv-loop μ-loop
+bands-written-requires c κs =
+    let d = c .before .before .before in
+    let k = asked d in
+    let f = onward k in
+    let l = turn k .loop in
+    (l .inv .0 .sound, omega (arith, f .2, l .inv .0 .at-within), stands d (c .before .enum-told .given .1) .0)
+
+quote-hint-all-requires-7 : tie.Need-quote-hint-all-requires-7 Inv-loop μ-loop
+quote-hint-all-requires-7 c κs = search needs
+
+quote-hint-all-requires-8 : tie.Need-quote-hint-all-requires-8 Inv-loop μ-loop
+quote-hint-all-requires-8 c κs = search needs
+
+loop-less-6 : tie.Need-loop-less-6 Inv-loop μ-loop
+loop-less-6 c = let f = onward (asked (c .before .before .before .before .before .before .before .before .before .before .before .before .before .before .before .before .before .before .before)) in omega (arith, f .0, f .1)
+
+loop-again-6 : tie.Need-loop-again-6 Inv-loop μ-loop
+loop-again-6 c =
+    let d = c .before .before .before .before .before .before .before .before .before .before .before .before .before .before .before .before .before .before .before in
+    let k = asked d in
+    let l = turn k .loop in
+    let e = stands d (c .before .before .before .before .before .before .before .before .before .before .before .before .before .before .before .before .before .enum-told .given .1) .1 in
+    let written = c .before .before .before .before .before .before .before .before .before .before .before .before .before .before .before .bands-written in (
+      next k (wrote-as (l .present) (l .count + 1) (l .at) (l .out) _ (written .result) e (written .ensures)) (written .kept .1 .1 .1 .1 .0),
+      l .inv .1,
+      l .inv .2,
+      c .before .before .before .before .before .before .quote-hint-all7 .ensures,
+      c .quote-hint-all8 .ensures,
+    )
+
 enum-known-next-2 : tie.Need-enum-known-next-2 Inv-loop μ-loop
 enum-known-next-2 c = search needs
 
@@ -404,6 +450,12 @@ records-told-spec =
     quote-hint-all-requires-6
     loop-less-5
     loop-again-5
+    enum-told
+    bands-written-requires
+    quote-hint-all-requires-7
+    quote-hint-all-requires-8
+    loop-less-6
+    loop-again-6
     enum-known-next-2
     same-length
     same-length-2

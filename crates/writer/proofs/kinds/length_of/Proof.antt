@@ -17,6 +17,12 @@ enum-told-4 c = search needs
 enum-told-5 : tie.Need-enum-told-5
 enum-told-5 c = search needs
 
+enum-known-record : tie.Need-enum-known-record
+enum-known-record c = search needs
+
+bands-length-requires : tie.Need-bands-length-requires
+bands-length-requires c κs = search needs
+
 returns : tie.Need-returns
 returns c = rw (c .enum-told .given .1)
 
@@ -32,6 +38,9 @@ returns-4 c = rw (c .enum-told4 .given .1)
 returns-5 : tie.Need-returns-5
 returns-5 c = rw (c .enum-told5 .given .1)
 
+returns-6 : tie.Need-returns-6
+returns-6 c = rw (c .before .before .«record» .given .1) (c .bands-length .ensures)
+
 pub length-of-spec : {M : Type 1} → statement M
 length-of-spec =
     tie.close
@@ -41,8 +50,11 @@ length-of-spec =
     enum-told-3
     enum-told-4
     enum-told-5
+    enum-known-record
+    bands-length-requires
     returns
     returns-2
     returns-3
     returns-4
-    returns-5)
+    returns-5
+    returns-6)
