@@ -70,12 +70,12 @@ pub one-step-in-range : (x : OneStep)
 one-step-in-range x =
     rw (one-row-table (x .step))
     (ap (λ (b : Bool). isStep (x .step) && b && isFactor (x .factor) && isThreshold (x .threshold) && isOrderValue (x .most)) (go (isPrice (x .reference)) refl)) where
+      least : T (isPrice (x .reference)) → minPrice ≤ x .reference
+      least h = leb→le minPrice (x .reference) (and-both (leb minPrice (x .reference)) _ h .0)
+
       go : (b : Bool) → isPrice (x .reference) ≡ b → isPrice (x .reference) && onStep (oneRow (x .step)) (x .reference) ≡ isPrice (x .reference) && isMultiple (x .step) (x .reference)
       go true e = rw (e, one-row-step (x .step) (x .reference) (least (rw e tt)))
       go false e = rw e
-
-      least : T (isPrice (x .reference)) → minPrice ≤ x .reference
-      least h = leb→le minPrice (x .reference) (and-both (leb minPrice (x .reference)) _ h .0)
 
 pub one-step-limits : (step : ℕ) (p : Price) → minPrice ≤ p .0 → offStep (oneRow step) (At p) ≡ not (isMultiple step (p .0))
 one-step-limits step p h = rw (one-row-step step (p .0) h)
@@ -111,9 +111,14 @@ good-start-parts p h =
 
 parts-good : (p : Parameters) → GoodParameters p → T (areParameters p)
 parts-good p g =
-    and-intro _ _
-    (and-intro _ _
-    (and-intro _ _ (and-intro _ _ (g .table-holds) (and-intro _ _ (g .reference-price) (g .reference-on-step))) (g .factor-in-range))
+    let a = isTable (p .table) in
+    let price = isPrice (p .reference .0) in
+    let on = onStep (p .table) (p .reference .0) in
+    let factor = isFactor (p .factor .0) in
+    let threshold = isThreshold (p .threshold .0) in
+    and-intro (a && (price && on) && factor && threshold) (isOrderValue (p .most .0))
+    (and-intro (a && (price && on) && factor) threshold
+    (and-intro (a && (price && on)) factor (and-intro a (price && on) (g .table-holds) (and-intro price on (g .reference-price) (g .reference-on-step))) (g .factor-in-range))
     (g .threshold-in-range))
     (g .most-in-range)
 
@@ -146,9 +151,12 @@ start-refused s x =
 
 -- ---- a header of kind 6, once its four bytes are there
 module _ (bytes : List ℕ) (place : ℕ) (small : (i : ℕ) → getD bytes i 0 < 256) (whole : place + headerLength ≤ length bytes) (six : kindAt bytes place ≡ 6) where
-  halves : (number bytes place 4 / lengthBound ≡ 6) × (number bytes place 4 % lengthBound ≡ lengthAt bytes place)
+  two-bytes : lengthAt bytes place < lengthBound
   unfolding number
-  halves = ?
+  two-bytes = omega (arith, small place, small (suc place))
+
+  halves : (number bytes place 4 / lengthBound ≡ 6) × (number bytes place 4 % lengthBound ≡ lengthAt bytes place)
+  halves = (omega (arith, two-bytes, number-four bytes place, six), omega (arith, two-bytes, number-four bytes place))
 
   -- K6. It waits for its row count, where its length has room for one ..
   pub waits-for-count : countedLength ≤ lengthAt bytes place → length bytes < place + countedLength → pieceAt bytes place false ≡ Piece.Waits
