@@ -8,15 +8,16 @@ use mathlib.Core.List.{List, [], _∷_, _++_, map}
 use native.Mathlib.Omega.{arith}
 use lib.Dec.{T, leb, leb→le}
 use lib.ListN.{length, drop, getD}
-use Rattle.lists.specs.Tests.{and-both, and-intro}
+use Rattle.lists.specs.Tests.{and-both}
 use Rattle.terms.specs.Bounds.{minPrice}
 use Rattle.terms.specs.Kinds.{isPrice, isStep, isMultiple, isFactor, isThreshold, isOrderValue}
-use Rattle.terms.specs.Tables.{rows, isTable, rowOf, onStep, isReference, oneRow}
+use Rattle.terms.specs.Tables.{rows, isTable, rowOf, onStep, oneRow}
 use Rattle.terms.specs.TableLaws.{LastIn, last-is-one, row-found, rows-counted, one-row-table, one-row-step}
-use Rattle.terms.specs.Parameters.{areParameters, parametersFrom, startWith, isStart}
+use Rattle.terms.specs.Parameters.{parametersFrom, startWith, isStart}
+use Rattle.terms.specs.Made.{ParametersHold, parameters-hold, hold-together}
 use Rattle.terms.specs.declared.kinds.{Price.Price}
 use Rattle.terms.specs.declared.orders.{Limit.the-variants.At}
-use Rattle.terms.specs.declared.parameters.{Start.Start, OneStep.OneStep, Parameters.Parameters}
+use Rattle.terms.specs.declared.parameters.{Start.Start, OneStep.OneStep}
 use Rattle.terms.specs.declared.tables.{Row.Row, Table.Table}
 use Rattle.controls.specs.Controls.{offStep}
 use Rattle.session.specs.declared.{Session.Session}
@@ -86,42 +87,6 @@ pub record OneRowOf (t : Table) (price : ℕ) : Type 0 where
   pub last : LastIn price (rows t) (rowOf t price)
   pub only : (r : Row) (l : LastIn price (rows t) r) → (l .at ≡ last .at) × (r ≡ rowOf t price)
 
--- every field of a start is good: the table, the reference price on its step, and the others in their ranges
-pub record GoodParameters (p : Parameters) : Type 0 where
-  pub table-holds : T (isTable (p .table))
-  pub reference-price : T (isPrice (p .reference .0))
-  pub reference-on-step : T (onStep (p .table) (p .reference .0))
-  pub factor-in-range : T (isFactor (p .factor .0))
-  pub threshold-in-range : T (isThreshold (p .threshold .0))
-  pub most-in-range : T (isOrderValue (p .most .0))
-
-abbrev pub GoodStart : Start → Type 0
-GoodStart x = GoodParameters (parametersFrom x)
-
-good-start-parts : (p : Parameters) → T (areParameters p) → GoodParameters p
-good-start-parts p h =
-    let a = isTable (p .table) in
-    let b = isReference (p .table) (p .reference .0) in
-    let (abcd, most) = and-both (a && b && isFactor (p .factor .0) && isThreshold (p .threshold .0)) (isOrderValue (p .most .0)) h in
-    let (abc, threshold) = and-both (a && b && isFactor (p .factor .0)) (isThreshold (p .threshold .0)) abcd in
-    let (ab, factor) = and-both (a && b) (isFactor (p .factor .0)) abc in
-    let (table, reference) = and-both a b ab in
-    let (price, on) = and-both (isPrice (p .reference .0)) (onStep (p .table) (p .reference .0)) reference in
-    record { table-holds = table; reference-price = price; reference-on-step = on; factor-in-range = factor; threshold-in-range = threshold; most-in-range = most }
-
-parts-good : (p : Parameters) → GoodParameters p → T (areParameters p)
-parts-good p g =
-    let a = isTable (p .table) in
-    let price = isPrice (p .reference .0) in
-    let on = onStep (p .table) (p .reference .0) in
-    let factor = isFactor (p .factor .0) in
-    let threshold = isThreshold (p .threshold .0) in
-    and-intro (a && (price && on) && factor && threshold) (isOrderValue (p .most .0))
-    (and-intro (a && (price && on) && factor) threshold
-    (and-intro (a && (price && on)) factor (and-intro a (price && on) (g .table-holds) (and-intro price on (g .reference-price) (g .reference-on-step))) (g .factor-in-range))
-    (g .threshold-in-range))
-    (g .most-in-range)
-
 -- .. of every table, so of that of every session that can be reached
 pub one-row-of : (t : Table) → T (isTable t) → (price : ℕ) → minPrice ≤ price → OneRowOf t price
 one-row-of t holds price h =
@@ -133,7 +98,7 @@ one-row-of t holds price h =
     }
 
 pub one-row-reached : (cs : List Call) (price : ℕ) → minPrice ≤ price → OneRowOf (run freshSession cs .parameters .table) price
-one-row-reached cs price h = one-row-of _ (good-start-parts (run freshSession cs .parameters) (reached-is-sound cs .parameters-hold) .table-holds) price h
+one-row-reached cs price h = one-row-of _ (parameters-hold (run freshSession cs .parameters) (reached-is-sound cs .parameters-hold) .table-holds) price h
 
 not-both : (b : Bool) → T (not b) → T b → ⊥
 not-both true n h = n
@@ -144,10 +109,10 @@ fails true n = n tt
 fails false n = tt
 
 -- K6c. A start answers 1 exactly when its table, the count of its rows or a field is bad.
-pub start-refused : (s : Session) (x : Start) → (started s x .answer ≡ 1) ↔ (GoodStart x → ⊥)
+pub start-refused : (s : Session) (x : Start) → (started s x .answer ≡ 1) ↔ (ParametersHold (parametersFrom x) → ⊥)
 start-refused s x =
     let (to, from) = start-exactly s x .refused 1 (omega arith) in
-    ((λ e good. not-both (isStart x) (to e .0) (parts-good (parametersFrom x) good)), (λ bad. from (fails (isStart x) (λ h. bad (good-start-parts (parametersFrom x) h)), tt)))
+    ((λ e good. not-both (isStart x) (to e .0) (hold-together (parametersFrom x) good)), (λ bad. from (fails (isStart x) (λ h. bad (parameters-hold (parametersFrom x) h)), tt)))
 
 -- ---- a header of kind 6, once its four bytes are there
 module _ (bytes : List ℕ) (place : ℕ) (small : (i : ℕ) → getD bytes i 0 < 256) (whole : place + headerLength ≤ length bytes) (six : kindAt bytes place ≡ 6) where

@@ -11,11 +11,13 @@ use lib.Seq.{take-at, drop-append-seam, take-add, drop-drop, getD-take, getD-dro
 use borrow.Author.Tests.{le-ltb, leb-true, leb-false}
 use Rattle.lists.specs.Tests.{tests, decided, and-both}
 use Rattle.terms.specs.Bounds.{minPrice, minRows, maxRows}
-use Rattle.terms.specs.Kinds.{within, isPrice, isFactor, isThreshold, isOrderValue, isMember, isQuantity, isNumber}
+use Rattle.terms.specs.Kinds.{within, isPrice, isMember, isQuantity, isNumber}
 use Rattle.terms.specs.Orders.{isSide, isValidity, isLimit, limitFrom}
-use Rattle.terms.specs.Parameters.{startWith, isStart}
+use Rattle.terms.specs.Parameters.{parametersFrom, startWith, isStart}
+use Rattle.terms.specs.Made.{ParametersHold, parameters-hold}
 use Rattle.terms.specs.Quotes.{isQuoteSide}
-use Rattle.terms.specs.Tables.{allRows, isRow, isTable, isReference, oneRow}
+use Rattle.terms.specs.Tables.{allRows, isRow, isTable, oneRow}
+use Rattle.terms.specs.TableLaws.{table-parts}
 use Rattle.terms.specs.declared.parameters.{Start.Start}
 use Rattle.terms.specs.declared.quote_terms.{SideEntry.SideEntry}
 use Rattle.records.specs.declared.{kinds.Record.Record}
@@ -23,22 +25,19 @@ use Rattle.records.specs.Fields.{number, headerLength, lengthBound, rowW
 use Rattle.records.specs.Bytes.{kindOf, widthsOf, numbersOf, lengthOf, headerWidths, headerBytes, fieldBytes, recordBytes, fileOf, allInRange}
 use Rattle.records.specs.Layout.{Fit, bytes-count, fields-back, bytes-taken, bytes-back}
 use Rattle.records.specs.Lengths.{bands-length, bands-known, of-kind, length-parts, length-is, length-passes, widths-part}
-use Rattle.records.specs.TableBytes.{five, fits, table-says, row-fits, rows-count, rows-fit, numbers-read, asBands, bands-from, bands-back}
+use Rattle.records.specs.TableBytes.{five, fits, row-fits, rows-count, rows-fit, numbers-read, asBands, bands-numbered, bands-back}
 use Rattle.records.specs.Walk.{Read, lengthAt, kindAt, partAt, isFaulty, recordAt, Walk, after, goOn, walkFrom, walk}
 use Rattle.records.specs.Reads.{faulty-whole, read-end, read-fault, read-record, good-header, good-record}
 use Rattle.records.specs.Ends.{nothing-left}
 use Rattle.records.specs.Pieces.{moved-read}
 
 -- what the test of a start says
-start-parts : (s : Start) → T (isStart s) → T (isTable (s .table)) × T (isPrice (s .reference)) × T (isFactor (s .factor)) × T (isThreshold (s .threshold)) × T (isOrderValue (s .most))
-start-parts s h =
-    let (table, reference, factor, threshold, most) =
-    five (isTable (s .table)) (isReference (s .table) (s .reference)) (isFactor (s .factor)) (isThreshold (s .threshold)) _ h in
-    (table, and-both (isPrice (s .reference)) _ reference .0, factor, threshold, most)
+start-parts : (s : Start) → T (isStart s) → ParametersHold (parametersFrom s)
+start-parts s h = parameters-hold (parametersFrom s) h
 
 -- it counts 1 to 8 rows
 pub bands-counted : (s : Start) → T (isStart s) → T (within minRows maxRows (s .table .count))
-bands-counted s h = table-says (s .table) (start-parts s h .0) .0
+bands-counted s h = table-parts (s .table) (start-parts s h .table-holds) .counted
 
 -- every record's kind is known, its number has two bytes, and it has a number for each width
 laid-out : (r : Record) → (eqb (lengthOf r) 0 ≡ false) × (kindOf r < 256 ^ 2) × (length (numbersOf r) ≡ length (widthsOf r))
@@ -90,13 +89,13 @@ side-fits e h = let (quantity, limit) = and-both (isQuantity (e .quantity)) (isP
 -- a start's numbers behind its step or its rows
 later-fit : (s : Start) → T (isStart s) → Fit (rowWidths 0) (s .reference ∷ s .factor ∷ s .threshold ∷ s .most ∷ [])
 later-fit s h =
-    let (table, reference, factor, threshold, most) = start-parts s h in
-    (fits _ _ _ 4 reference tt, (fits _ _ _ 2 factor tt, (fits _ _ _ 2 threshold tt, (fits _ _ _ 8 most tt, tt))))
+    let parts = start-parts s h in
+    (fits _ _ _ 4 (parts .reference-price) tt, (fits _ _ _ 2 (parts .factor-in-range) tt, (fits _ _ _ 2 (parts .threshold-in-range) tt, (fits _ _ _ 8 (parts .most-in-range) tt, tt))))
 
 -- a record's numbers, where it is in range
 pub bytes-fit : (r : Record) → T (inRange r) → Fit (widthsOf r) (numbersOf r)
 bytes-fit (Record.Start p) h =
-    let (count, counted, others) = table-says (oneRow (p .step)) (start-parts (startWith p) h .0) in
+    let counted = table-parts (oneRow (p .step)) (start-parts (startWith p) h .table-holds) .each-row in
     let (row, none) = and-both (isRow (record { lowest = minPrice; step = p .step })) true counted in
     (row-fits (record { lowest = minPrice; step = p .step }) row .1, later-fit (startWith p) h)
 bytes-fit (Record.Order e) h =
@@ -112,8 +111,8 @@ bytes-fit (Record.Quote q) h =
     let (ask-quantity, ask-limit) = side-fits (q .ask) ask in
     (fits _ _ _ 2 member tt, (bid-quantity, (bid-limit, (ask-quantity, (ask-limit, tt)))))
 bytes-fit (Record.Bands s) h =
-    let (count, counted, others) = table-says (s .table) (start-parts s h .0) in
-    (fits _ _ _ 2 count tt, rows-fit (s .table .count) (allRows (s .table)) _ counted (later-fit s h))
+    let parts = table-parts (s .table) (start-parts s h .table-holds) in
+    (fits _ _ _ 2 (parts .counted) tt, rows-fit (s .table .count) (allRows (s .table)) _ (parts .each-row) (later-fit s h))
 
 -- ---- what is written is read back
 
@@ -125,10 +124,10 @@ record-made (Record.Delete d) h part e = ap (λ (ns : List ℕ). Record.Delete (
 record-made (Record.Auction which) h part e = ap (λ (ns : List ℕ). Record.Auction (asAuction ns)) e
 record-made (Record.Quote q) h part e = ap (λ (ns : List ℕ). Record.Quote (asQuote ns)) e
 record-made (Record.Bands s) h part e =
-    let table = start-parts s h .0 in
+    let table = start-parts s h .table-holds in
     let count : number part 0 2 ≡ s .table .count = ap (λ (ns : List ℕ). getD ns 0 0) e in
     ap Record.Bands
-    (ap (bandsBy part) count ∙ bands-from part (s .table .count) (bands-counted s h) ∙ ap (asBands (s .table .count)) e ∙ bands-back s table)
+    (ap (bandsBy part) count ∙ bands-numbered part (s .table .count) (bands-counted s h) ∙ ap (asBands (s .table .count)) e ∙ bands-back s table)
 
 -- .. and its widths are those that its kind and its bytes say
 widths-made : (r : Record) (part : List ℕ) → fieldsOf (widthsOf r) part ≡ numbersOf r → widthsBy (kindOf r) part ≡ widthsOf r

@@ -1,4 +1,4 @@
--- Tables of steps in bytes: 02 K6. What the test of a table says of its rows, and the rows of a start by bands as its layout has them.
+-- Tables of steps in bytes: 02 K6. The rows of a start by bands as its layout has them.
 use Prim.Native.Nat.{ℕ, zero, suc, _+_, _*_, _^_, _<_}
 use mathlib.Core.Bool.{Bool, true, false, cond, _&&_}
 use mathlib.Core.Path.{_≡_, refl, ap}
@@ -10,7 +10,8 @@ use Rattle.lists.specs.Choice.{all}
 use Rattle.lists.specs.Tests.{tests, and-both}
 use Rattle.terms.specs.Bounds.{minRows, maxRows}
 use Rattle.terms.specs.Kinds.{within, isPrice, isStep}
-use Rattle.terms.specs.Tables.{allRows, rows, isRow, beginsLowest, rise, noRow, isNoRow, isTable}
+use Rattle.terms.specs.Tables.{allRows, isRow, noRow, isNoRow, isTable}
+use Rattle.terms.specs.TableLaws.{table-parts}
 use Rattle.terms.specs.declared.parameters.{Start.Start}
 use Rattle.terms.specs.declared.tables.{Row.Row, Table.Table}
 use Rattle.records.specs.declared.{kinds.Record.Record}
@@ -31,13 +32,6 @@ pub fits : (low high x width : ℕ) → T (within low high x) → T (ltb high (2
 fits low high x width h k = let w = and-both (leb low x) (leb x high) h in omega (tests, w)
 
 -- ---- a table
-
--- what its test says: the count, the rows counted, and the others
-pub table-says : (t : Table) → T (isTable t) → T (within minRows maxRows (t .count)) × T (all isRow (rows t)) × T (all isNoRow (drop (t .count) (allRows t)))
-unfolding isTable
-table-says t h =
-    let (count, begins, rises, counted, others) = five (within minRows maxRows (t .count)) (beginsLowest (rows t)) (rise 0 (rows t)) (all isRow (rows t)) _ h in
-    (count, counted, others)
 
 -- a row's numbers have room
 pub row-fits : (r : Row) → T (isRow r) → (r .lowest < 256 ^ 4) × (r .step < 256 ^ 4)
@@ -115,8 +109,8 @@ asBands count ns = record {
   most = getD ns (4 + 2 * count) 0;
 }
 
-pub bands-from : (part : List ℕ) (count : ℕ) → T (within minRows maxRows count) → bandsBy part count ≡ asBands count (number part 0 2 ∷ fieldsFrom (rowWidths count) part 2)
-bands-from part =
+pub bands-numbered : (part : List ℕ) (count : ℕ) → T (within minRows maxRows count) → bandsBy part count ≡ asBands count (number part 0 2 ∷ fieldsFrom (rowWidths count) part 2)
+bands-numbered part =
     of-count (λ (count : ℕ). bandsBy part count ≡ asBands count (number part 0 2 ∷ fieldsFrom (rowWidths count) part 2))
     refl refl refl refl refl refl refl refl
 
@@ -160,8 +154,8 @@ module _ (s : Start) where
 
   pub bands-back : T (isTable (s .table)) → asBands (s .table .count) (numbersOf (Record.Bands s)) ≡ s
   bands-back h =
-      let (count, counted, others) = table-says (s .table) h in
+      let parts = table-parts (s .table) h in
       of-count
       (λ (n : ℕ). T (all isNoRow (drop n rs)) → asBands n (n ∷ rowNumbers n rs ++ (s .reference ∷ s .factor ∷ s .threshold ∷ s .most ∷ [])) ≡ withRows s n rs)
       (counted-alone 1) (counted-alone 2) (counted-alone 3) (counted-alone 4) (counted-alone 5) (counted-alone 6) (counted-alone 7) (counted-alone 8)
-      (s .table .count) count others
+      (s .table .count) (parts .counted) (parts .unused)

@@ -1,14 +1,15 @@
 -- Sound: the one stated property that a promise may take for its premise (A3). A fresh session has it, and every call hands it on.
 use Prim.Native.Nat.{ℕ, _≤_, _<_}
-use mathlib.Core.Bool.{Bool, true, false, _&&_, true≢false}
+use mathlib.Core.Bool.{Bool, false, true≢false}
 use mathlib.Core.Path.{_≡_, refl, sym, subst}
 use native.Mathlib.Omega.{arith}
 use lib.Dec.{T}
-use Rattle.lists.specs.Tests.{and-both}
+use Rattle.lists.specs.Tests.{and-both, and-intro}
 use Rattle.terms.specs.Bounds.{maxNumber}
-use Rattle.terms.specs.Kinds.{isPrice, isFactor, isThreshold, isOrderValue}
+use Rattle.terms.specs.Kinds.{isPrice}
 use Rattle.terms.specs.Tables.{rowOf, onStep, isTable, isReference}
 use Rattle.terms.specs.Parameters.{areParameters}
+use Rattle.terms.specs.Made.{parameters-hold}
 use Rattle.terms.specs.declared.kinds.{Price.Price}
 use Rattle.terms.specs.declared.parameters.{Parameters.Parameters}
 use Rattle.book.specs.declared.Book.{Book}
@@ -55,21 +56,16 @@ not-started PreOpening e = absurd (true≢false e)
 not-started Day e = absurd (true≢false e)
 not-started Closed e = absurd (true≢false e)
 
-reference-of : (a b c d e : Bool) → T (a && b && c && d && e) → T b
-reference-of true true c d e h = tt
-reference-of true false c d e h = absurd h
-reference-of false b c d e h = absurd h
-
 -- Each change of a session hands it on.
 module _ (s : Session) (sound : Sound s) where
   pub begun-sound : hasStarted (s .phase) ≡ false → (p : Parameters) → T (areParameters p) → Sound (begun s p)
   begun-sound again p holds =
       let same = sound .fresh (not-started (s .phase) again) in
+      let parts = parameters-hold p holds in
       record {
         fresh = λ i. let z : _≡_ {A = ℕ} 0 1 = cc in absurd (omega arith);
         parameters-hold = holds;
-        reference-holds =
-            reference-of (isTable (p .table)) (legalPrice (begun s p) (p .reference .0)) (isFactor (p .factor .0)) (isThreshold (p .threshold .0)) (isOrderValue (p .most .0)) holds;
+        reference-holds = and-intro (isPrice (p .reference .0)) (onStep (p .table) (p .reference .0)) (parts .reference-price) (parts .reference-on-step);
         numbers-left = sound .numbers-left;
         book-sound = subst (λ (x : Session). SoundBook (legalPrice (begun s p)) (x .given) (x .book)) (sym same) (empty-sound (legalPrice (begun s p)) 0);
       }
