@@ -34,7 +34,7 @@ TOKEN = re.compile(r"""//[^\n]*|--[^\n]*|b"(?:[^"\\]|\\.)*"|b'.'|[A-Za-z_Â·][\wÂ
 
 
 # Definitions that are the inputs of worked examples: another input is as good.
-INPUTS = {"Examples.antt", "Clause7.antt", "Samples.antt", "Sums.antt", "Worked.antt"}
+INPUTS = {"Examples.antt", "TableExamples.antt", "Clause7.antt", "Samples.antt", "Sums.antt", "Worked.antt"}
 
 
 @dataclass(frozen=True)
