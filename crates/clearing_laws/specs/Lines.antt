@@ -10,6 +10,7 @@ use Rattle.transcript.specs.Transcript.{Step, step, stepLines, linesFrom}
 use Rattle.desk.specs.declared.{Desk.Desk}
 use Rattle.desk_auction.specs.Auctions.{auctioned}
 use Rattle.desk_steps.specs.Steps.{deskStep, deskLinesFrom}
+use Rattle.demands.specs.Bands.{inBands}
 use Rattle.clearing_laws.specs.Plain.{as-plain}
 
 -- no record is answered 16
@@ -45,3 +46,12 @@ lines-plain d count (r ∷ rs) faulty (here, later) =
     ap (λ (text : List ℕ). stepLines (suc count) (deskStep d r .told) ++ text)
     (lines-plain (deskStep d r .desk) (suc count) rs faulty later ∙ ap (λ (s : Session). linesFrom s (suc count) rs faulty) (inside d r))
     ∙ ap (λ (t : Step). stepLines (suc count) t ++ linesFrom (t .session) (suc count) rs faulty) same
+
+-- K6a in a session that keeps the square: a record of kind 1 and the one of kind 6 with the one row do the same, to the desk and in lines.
+pub desk-one-row : (d : Desk) (r : Record) → deskStep d (inBands r) ≡ deskStep d r
+desk-one-row d (Record.Start x) = refl
+desk-one-row d (Record.Order e) = refl
+desk-one-row d (Record.Delete x) = refl
+desk-one-row d (Record.Auction which) = refl
+desk-one-row d (Record.Quote e) = refl
+desk-one-row d (Record.Bands x) = refl

@@ -7,7 +7,7 @@ use mathlib.Core.Path.{_≡_, refl, sym, ap, _∙_}
 use mathlib.Core.List.{List, [], _∷_, _++_, map}
 use native.Mathlib.Omega.{arith}
 use lib.Dec.{T, leb, leb→le}
-use lib.ListN.{length, drop, getD}
+use lib.ListN.{length, getD}
 use Rattle.lists.specs.Tests.{and-both}
 use Rattle.terms.specs.Bounds.{minPrice}
 use Rattle.terms.specs.Kinds.{isPrice, isStep, isMultiple, isFactor, isThreshold, isOrderValue}
@@ -24,14 +24,13 @@ use Rattle.session.specs.declared.{Session.Session}
 use Rattle.session.specs.State.{freshSession}
 use Rattle.entries.specs.Entry.{started}
 use Rattle.records.specs.declared.{kinds.Record.Record, Piece.Piece}
-use Rattle.records.specs.Fields.{number, headerLength, lengthBound, countedLength, bandWidths, wholeLength}
-use Rattle.records.specs.Numbers.{number-four}
+use Rattle.records.specs.Fields.{number, headerLength, lengthBound, countedLength}
 use Rattle.records.specs.Lengths.{bands-length}
 use Rattle.records.specs.Bytes.{numbersOf}
 use Rattle.records.specs.Walk.{lengthAt, kindAt}
-use Rattle.records.specs.Headers.{headerAt, bands-short, bands-open, bands-misfit}
+use Rattle.records.specs.Headers.{split, bands-short, bands-open, bands-misfit}
 use Rattle.records.specs.Pieces.{pieceAt, headerPiece, piece-header}
-use Rattle.transcript.specs.Transcript.{Step, step, stepLines, linesFrom}
+use Rattle.transcript.specs.Transcript.{step, stepLines, linesFrom}
 use Rattle.demands.specs.Answers.{start-exactly}
 use Rattle.demands.specs.Sequences.{Call, run, reached-is-sound}
 
@@ -116,12 +115,8 @@ start-refused s x =
 
 -- ---- a header of kind 6, once its four bytes are there
 module _ (bytes : List ℕ) (place : ℕ) (small : (i : ℕ) → getD bytes i 0 < 256) (whole : place + headerLength ≤ length bytes) (six : kindAt bytes place ≡ 6) where
-  two-bytes : lengthAt bytes place < lengthBound
-  unfolding number
-  two-bytes = omega (arith, small place, small (suc place))
-
   halves : (number bytes place 4 / lengthBound ≡ 6) × (number bytes place 4 % lengthBound ≡ lengthAt bytes place)
-  halves = (omega (arith, two-bytes, number-four bytes place, six), omega (arith, two-bytes, number-four bytes place))
+  halves = let h = split bytes place small refl in (sym (h .0) ∙ six, sym (h .1))
 
   -- K6. It waits for its row count, where its length has room for one ..
   pub waits-for-count : countedLength ≤ lengthAt bytes place → length bytes < place + countedLength → pieceAt bytes place false ≡ Piece.Waits

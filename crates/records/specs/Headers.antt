@@ -122,7 +122,7 @@ module _ (bytes : List ℕ) (place : ℕ) (small : (i : ℕ) → getD bytes i 0 
 
 -- any other head: its two halves
 module _ (bytes : List ℕ) (place : ℕ) (small : (i : ℕ) → getD bytes i 0 < 256) {head : ℕ} (n : head ≡ number bytes place 4) where
-  split : (kindAt bytes place ≡ head / 65_536) × (lengthAt bytes place ≡ head % 65_536)
+  pub split : (kindAt bytes place ≡ head / 65_536) × (lengthAt bytes place ≡ head % 65_536)
   split =
       let s = length-small bytes place small in
       let e = number-four bytes place in
