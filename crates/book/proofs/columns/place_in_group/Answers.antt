@@ -8,6 +8,7 @@ use native.Mathlib.Numerals.{add-one}
 use native.Mathlib.Omega.{arith}
 use Rattle.book.specs.Resting.{place_in, first-hit, first-miss, first-end}
 use Rattle.book.proofs.columns.place_in_group.Goals as goal
+use Rattle.book.proofs.columns.place_in_group.Goals.{then-numbers-place+else-bit_of-eq1, else-numbers-place}
 
 -- one place more is left than after the step
 left-more : (p behind : ℕ) → p < behind → behind - p ≡ suc (behind - (p + 1))
@@ -29,7 +30,7 @@ loop-place-preserved c = (
   c.loop-place.invariant.1 ∙
       rw (left-more _ _ c.loop-place-test.true, add-one)
       (first-miss _ _ _
-      (⊎_elim (λ w. rw (← w.2.ensures, ne_eqb _ 1 w.3.left)) (λ w. rw (w.left, and-false)) c.if-numbers-place.branch)),
+      (elim c.if-numbers-place.branch [ then-numbers-place+else-bit_of-eq1 w ↦ rw (← w.bit_of.ensures, ne_eqb _ 1 w.if-bit_of-eq1.false) | else-numbers-place w ↦ rw (w.if-numbers-place.false, and-false) ])),
 )
 
 pub returns : goal.returns

@@ -6,6 +6,7 @@ use native.Mathlib.Omega.{arith}
 use Rattle.book.specs.Groups.{place-in-none, first_found, first_past}
 use Rattle.book.specs.Resting.{place_in, first-end}
 use Rattle.book.proofs.columns.place_of.Goals as goal
+use Rattle.book.proofs.columns.place_of.Goals.{then-has_number+else-found-place, else-has_number}
 
 -- a group more is left than after the step
 left-more : (p : ℕ) → p + 8 ≤ 512 → 512 - p ≡ 8 + (512 - (p + 8))
@@ -27,10 +28,10 @@ loop-place-preserved c = let within : c.loop-place.place + 8 ≤ 512 = omega ari
   c.loop-place.invariant.2 ∙
       rw (left-more _ within)
       (first_past _ 8 _ _
-      (⊎_elim
-      (λ w. rw (← w.1.ensures) (omega (arith, w.2.left)))
-      (λ w. let a = c.args in place-in-none a.taken.now a.numbers.now a.members.now a.number a.member 8 _ (sym c.has_number.ensures ∙ w.left))
-      c.if-has_number.branch)),
+      (elim c.if-has_number.branch [
+        then-has_number+else-found-place w ↦ rw (← w.place_in_group-found.ensures) (omega (arith, w.if-found-place.false))
+        | else-has_number w ↦ let a = c.args in place-in-none a.taken.now a.numbers.now a.members.now a.number a.member 8 _ (sym c.has_number.ensures ∙ w.if-has_number.false)
+      ])),
 )
 
 pub returns : goal.returns
