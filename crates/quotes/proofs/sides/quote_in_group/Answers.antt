@@ -9,6 +9,7 @@ use native.Mathlib.Omega.{arith}
 use Rattle.quotes.specs.Quotes.{quote_place_in}
 use Rattle.book.specs.Resting.{first-hit, first-miss, first-end}
 use Rattle.quotes.proofs.sides.quote_in_group.Goals as goal
+use Rattle.quotes.proofs.sides.quote_in_group.Goals.{then-quoted-place-eq1+else-members-place, else-quoted-place-eq1}
 
 -- one place more is left than after the step
 left-more : (p behind : ℕ) → p < behind → behind - p ≡ suc (behind - (p + 1))
@@ -25,7 +26,7 @@ loop-place-preserved c = (
   search rules,
   c.loop-place.invariant.1 ∙
       rw (left-more _ _ c.loop-place-test.true, add-one)
-      (first-miss _ _ _ (⊎_elim (λ w. rw (w.3.left, and-false)) (λ w. rw (ne_eqb _ 1 w.left)) c.if-quoted-place-eq1.branch)),
+      (first-miss _ _ _ (elim c.if-quoted-place-eq1.branch [ then-quoted-place-eq1+else-members-place w ↦ rw (w.if-members-place.false, and-false) | else-quoted-place-eq1 w ↦ rw (ne_eqb _ 1 w.if-quoted-place-eq1.false) ])),
 )
 
 pub returns : goal.returns

@@ -8,6 +8,7 @@ use Rattle.quotes.specs.Groups.{quote-in-none}
 use Rattle.quotes.specs.Quotes.{quote_place_in}
 use Rattle.book.specs.Resting.{first-end}
 use Rattle.quotes.proofs.sides.quote_place.Goals as goal
+use Rattle.quotes.proofs.sides.quote_place.Goals.{then-has_quote+else-found-place, else-has_quote}
 
 -- a group more is left than after the step
 left-more : (p : ℕ) → p + 16 ≤ 512 → 512 - p ≡ 16 + (512 - (p + 16))
@@ -29,10 +30,10 @@ loop-place-preserved c = let within : c.loop-place.place + 16 ≤ 512 = omega ar
   c.loop-place.invariant.2 ∙
       rw (left-more _ within)
       (first_past _ 16 _ _
-      (⊎_elim
-      (λ w. rw (← w.1.ensures) (omega (arith, w.2.left)))
-      (λ w. let a = c.args in quote-in-none a.quoted.now a.members.now a.sides.now a.member a.side 16 _ (sym c.has_quote.ensures ∙ w.left))
-      c.if-has_quote.branch)),
+      (elim c.if-has_quote.branch [
+        then-has_quote+else-found-place w ↦ rw (← w.quote_in_group-found.ensures) (omega (arith, w.if-found-place.false))
+        | else-has_quote w ↦ let a = c.args in quote-in-none a.quoted.now a.members.now a.sides.now a.member a.side 16 _ (sym c.has_quote.ensures ∙ w.if-has_quote.false)
+      ])),
 )
 
 pub returns : goal.returns
