@@ -1,5 +1,4 @@
 use Rattle.records.specs.Numbers.{number-one, number_past}
-use borrow.Author.Rules.{rules}
 use Rattle.records.proofs.numbers.byte.Goals as goal
 
 pub returns-then-at-bytes : goal.returns-then-at-bytes

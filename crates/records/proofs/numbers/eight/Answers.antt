@@ -1,4 +1,3 @@
-use borrow.Author.Rules.{rules}
 use Rattle.records.specs.Numbers.{number-eight}
 use Rattle.records.proofs.numbers.eight.Goals as goal
 

@@ -1,4 +1,3 @@
-use borrow.Author.Rules.{rules}
 use Rattle.records.specs.Numbers.{number-four}
 use Rattle.records.proofs.numbers.four.Goals as goal
 

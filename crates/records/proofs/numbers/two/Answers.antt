@@ -1,4 +1,3 @@
-use borrow.Author.Rules.{rules}
 use Rattle.records.specs.Numbers.{number-two}
 use Rattle.records.proofs.numbers.two.Goals as goal
 

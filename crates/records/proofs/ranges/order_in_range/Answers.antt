@@ -1,5 +1,4 @@
 use mathlib.Core.Path.{sym, ◌∙◌}
-use borrow.Author.Rules.{rules}
 use Rattle.terms.specs.Made.{order-good, order-refused}
 use Rattle.records.proofs.ranges.order_in_range.Goals as goal
 

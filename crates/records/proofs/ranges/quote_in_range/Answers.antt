@@ -1,5 +1,4 @@
 use mathlib.Core.Path.{sym, ◌∙◌}
-use borrow.Author.Rules.{rules}
 use Rattle.terms.specs.Made.{quote-good, quote-refused}
 use Rattle.records.proofs.ranges.quote_in_range.Goals as goal
 

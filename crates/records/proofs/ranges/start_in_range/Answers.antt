@@ -1,5 +1,4 @@
 use mathlib.Core.Path.{sym, ◌∙◌}
-use borrow.Author.Rules.{rules}
 use Rattle.terms.specs.Made.{parameters-good, parameters-refused}
 use Rattle.records.proofs.ranges.start_in_range.Goals as goal
 

@@ -1,6 +1,5 @@
 use mathlib.Core.Bool.{true, false}
 use mathlib.Core.Path.{sym, ap, ◌∙◌}
-use borrow.Author.Rules.{rules}
 use native.Mathlib.Omega.{arith}
 use Rattle.records.specs.Reads.{read-end, read_short}
 use Rattle.records.specs.Pieces.{header_piece, piece-waits, piece-ended, piece-header}

@@ -1,6 +1,5 @@
 use mathlib.Core.Path.{sym}
 use Rattle.records.specs.Lengths.{bands-length}
-use borrow.Author.Rules.{rules}
 use Rattle.records.proofs.kinds.Kind.bands_length.Goals as goal
 
 pub returns : goal.returns
