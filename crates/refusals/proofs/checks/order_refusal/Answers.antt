@@ -9,37 +9,34 @@ use borrow.Author.Tests.{le-leb, lt-leb}
 use Rattle.refusals.specs.Checks.{Check, first_hit, hits, passes, passes-last}
 use Rattle.refusals.specs.Rows.{order_later}
 use Rattle.refusals.proofs.checks.order_refusal.Goals as goal
-use Rattle.refusals.proofs.checks.order_refusal.Goals.{Else-beyond, Else-given-ge-MAX, Else-not-allows_order, Else-not-has_started, Else-off_step, Else-reaches_collar, Else-reaches_most, Else-reaches_most_at_reference, Start}
-
-abbrev rows : Start → List Check
-rows c = let a = c.args in order_later a.phase a.p a.reference a.beyond a.given a.full a.o
+use Rattle.refusals.proofs.checks.order_refusal.Goals.{Else-beyond, Else-given-ge-MAX, Else-not-allows_order, Else-not-has_started, Else-off_step, Else-reaches_collar, Else-reaches_most, Else-reaches_most_at_reference}
 
 -- the checks from the n-th on answer for all
-abbrev Answers : ℕ → tie.Start → Type 0
-Answers n c = (r : ℕ) → r ≡ first_hit (drop n (rows c)) → r ≡ first_hit (rows c)
+abbrev Answers : ℕ → List Check → Type 0
+Answers n rows = (r : ℕ) → r ≡ first_hit (drop n rows) → r ≡ first_hit rows
 
-past-1 : (c : Else-not-has_started) → Answers 1 c.before.before
+past-1 : (c : Else-not-has_started) → let a = c.args in Answers 1 (order_later a.phase a.p a.reference a.beyond a.given a.full a.o)
 past-1 c r e = passes 2 _ (sym (ap not c.has_started.ensures) ∙ c.if-not-has_started.false-raw) e
 
-past-2 : (c : Else-not-allows_order) → Answers 2 c.before.before.before.before
+past-2 : (c : Else-not-allows_order) → let a = c.args in Answers 2 (order_later a.phase a.p a.reference a.beyond a.given a.full a.o)
 past-2 c r e = past-1 c.before.before _ (passes 4 _ (sym (ap not c.allows_order.ensures) ∙ c.if-not-allows_order.false-raw) e)
 
-past-3 : (c : Else-off_step) → Answers 3 c.before.before.before.before.before.before.before
+past-3 : (c : Else-off_step) → let a = c.args in Answers 3 (order_later a.phase a.p a.reference a.beyond a.given a.full a.o)
 past-3 c r e = past-2 c.before.before.before _ (passes 5 _ (sym c.off_step.ensures ∙ c.if-off_step.false) e)
 
-past-4 : (c : Else-reaches_collar) → Answers 4 c.before.before.before.before.before.before.before.before.before.before
+past-4 : (c : Else-reaches_collar) → let a = c.args in Answers 4 (order_later a.phase a.p a.reference a.beyond a.given a.full a.o)
 past-4 c r e = past-3 c.before.before.before _ (passes 6 _ (sym c.reaches_collar.ensures ∙ c.if-reaches_collar.false) e)
 
-past-5 : (c : Else-reaches_most) → Answers 5 c.before.before.before.before.before.before.before.before.before.before.before.before.before.before
+past-5 : (c : Else-reaches_most) → let a = c.args in Answers 5 (order_later a.phase a.p a.reference a.beyond a.given a.full a.o)
 past-5 c r e = past-4 c.before.before.before.before _ (passes 7 _ (sym c.reaches_most.ensures ∙ c.if-reaches_most.false) e)
 
-past-6 : (c : Else-reaches_most_at_reference) → Answers 6 c.before.before.before.before.before.before.before.before.before.before.before.before.before.before.before.before.before.before
+past-6 : (c : Else-reaches_most_at_reference) → let a = c.args in Answers 6 (order_later a.phase a.p a.reference a.beyond a.given a.full a.o)
 past-6 c r e = past-5 c.before.before.before.before _ (passes 8 _ (sym c.reaches_most_at_reference.ensures ∙ c.if-reaches_most_at_reference.false) e)
 
-past-7 : (c : Else-beyond) → Answers 7 c.before.before.before.before.before.before.before.before.before.before.before.before.before.before.before.before.before.before.before
+past-7 : (c : Else-beyond) → let a = c.args in Answers 7 (order_later a.phase a.p a.reference a.beyond a.given a.full a.o)
 past-7 c r e = past-6 c.before _ (passes 16 _ c.if-beyond.false e)
 
-past-8 : (c : Else-given-ge-MAX) → Answers 8 c.before.before.before.before.before.before.before.before.before.before.before.before.before.before.before.before.before.before.before.before
+past-8 : (c : Else-given-ge-MAX) → let a = c.args in Answers 8 (order_later a.phase a.p a.reference a.beyond a.given a.full a.o)
 past-8 c r e = past-7 c.before _ (passes 9 _ (lt-leb _ _ c.if-given-ge-MAX.false) e)
 
 pub returns-then-not-has_started : goal.returns-then-not-has_started

@@ -12,37 +12,34 @@ use Rattle.terms.specs.Bounds.{max_number}
 use Rattle.refusals.specs.Checks.{Check, first_hit, hits, passes, passes-last}
 use Rattle.refusals.specs.Rows.{quote_later}
 use Rattle.refusals.proofs.quote_checks.quote_refusal.Goals as goal
-use Rattle.refusals.proofs.quote_checks.quote_refusal.Goals.{Else-beyond, Else-either_off_step, Else-either_reaches_collar, Else-either_reaches_most, Else-either_reaches_most_at_reference, Else-given, Else-is_crossed, Else-not-allows_order, Else-not-has_started, Start}
-
-abbrev rows : Start → List Check
-rows c = let a = c.args in quote_later a.phase a.p a.reference a.beyond a.given a.short a.q
+use Rattle.refusals.proofs.quote_checks.quote_refusal.Goals.{Else-beyond, Else-either_off_step, Else-either_reaches_collar, Else-either_reaches_most, Else-either_reaches_most_at_reference, Else-given, Else-is_crossed, Else-not-allows_order, Else-not-has_started}
 
 -- the checks from the n-th on answer for all
-abbrev Answers : ℕ → tie.Start → Type 0
-Answers n c = (r : ℕ) → r ≡ first_hit (drop n (rows c)) → r ≡ first_hit (rows c)
+abbrev Answers : ℕ → List Check → Type 0
+Answers n rows = (r : ℕ) → r ≡ first_hit (drop n rows) → r ≡ first_hit rows
 
-past-1 : (c : Else-is_crossed) → Answers 1 c.before.before
+past-1 : (c : Else-is_crossed) → let a = c.args in Answers 1 (quote_later a.phase a.p a.reference a.beyond a.given a.short a.q)
 past-1 c r e = passes 13 _ (sym c.is_crossed.ensures ∙ c.if-is_crossed.false) e
 
-past-2 : (c : Else-not-has_started) → Answers 2 c.before.before.before.before
+past-2 : (c : Else-not-has_started) → let a = c.args in Answers 2 (quote_later a.phase a.p a.reference a.beyond a.given a.short a.q)
 past-2 c r e = past-1 c.before.before _ (passes 2 _ (sym (ap not c.has_started.ensures) ∙ c.if-not-has_started.false-raw) e)
 
-past-3 : (c : Else-not-allows_order) → Answers 3 c.before.before.before.before.before.before
+past-3 : (c : Else-not-allows_order) → let a = c.args in Answers 3 (quote_later a.phase a.p a.reference a.beyond a.given a.short a.q)
 past-3 c r e = past-2 c.before.before _ (passes 4 _ (sym (ap not c.allows_order.ensures) ∙ c.if-not-allows_order.false-raw) e)
 
-past-4 : (c : Else-either_off_step) → Answers 4 c.before.before.before.before.before.before.before.before.before
+past-4 : (c : Else-either_off_step) → let a = c.args in Answers 4 (quote_later a.phase a.p a.reference a.beyond a.given a.short a.q)
 past-4 c r e = past-3 c.before.before.before _ (passes 5 _ (sym c.either_off_step.ensures ∙ c.if-either_off_step.false) e)
 
-past-5 : (c : Else-either_reaches_collar) → Answers 5 c.before.before.before.before.before.before.before.before.before.before.before.before
+past-5 : (c : Else-either_reaches_collar) → let a = c.args in Answers 5 (quote_later a.phase a.p a.reference a.beyond a.given a.short a.q)
 past-5 c r e = past-4 c.before.before.before _ (passes 6 _ (sym c.either_reaches_collar.ensures ∙ c.if-either_reaches_collar.false) e)
 
-past-6 : (c : Else-either_reaches_most) → Answers 6 c.before.before.before.before.before.before.before.before.before.before.before.before.before.before.before
+past-6 : (c : Else-either_reaches_most) → let a = c.args in Answers 6 (quote_later a.phase a.p a.reference a.beyond a.given a.short a.q)
 past-6 c r e = past-5 c.before.before.before _ (passes 7 _ (sym c.either_reaches_most.ensures ∙ c.if-either_reaches_most.false) e)
 
-past-7 : (c : Else-either_reaches_most_at_reference) → Answers 7 c.before.before.before.before.before.before.before.before.before.before.before.before.before.before.before.before.before.before
+past-7 : (c : Else-either_reaches_most_at_reference) → let a = c.args in Answers 7 (quote_later a.phase a.p a.reference a.beyond a.given a.short a.q)
 past-7 c r e = past-6 c.before.before.before _ (passes 8 _ (sym c.either_reaches_most_at_reference.ensures ∙ c.if-either_reaches_most_at_reference.false) e)
 
-past-8 : (c : Else-beyond) → Answers 8 c.before.before.before.before.before.before.before.before.before.before.before.before.before.before.before.before.before.before.before
+past-8 : (c : Else-beyond) → let a = c.args in Answers 8 (quote_later a.phase a.p a.reference a.beyond a.given a.short a.q)
 past-8 c r e = past-7 c.before _ (passes 16 _ c.if-beyond.false e)
 
 -- whether two numbers are left, as the code tests it
@@ -52,7 +49,7 @@ spent given h = lt-ltb max_number (given + 2) (omega arith)
 enough : (given : ℕ) → given ≤ 999_998 → ltb max_number (given + 2) ≡ false
 enough given h = le-ltb max_number (given + 2) (omega arith)
 
-past-9 : (c : Else-given) → Answers 9 c.before.before.before.before.before.before.before.before.before.before.before.before.before.before.before.before.before.before.before.before
+past-9 : (c : Else-given) → let a = c.args in Answers 9 (quote_later a.phase a.p a.reference a.beyond a.given a.short a.q)
 past-9 c r e = past-8 c.before _ (passes 9 _ (enough _ c.if-given.false) e)
 
 pub returns-then-is_crossed : goal.returns-then-is_crossed
