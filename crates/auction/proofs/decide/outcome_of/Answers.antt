@@ -1,8 +1,8 @@
-use mathlib.Core.Logic.{⊎_elim}
 use borrow.Author.Rules.{rules}
 use borrow.Author.Tests.{ne_eqb}
 use Rattle.auction.specs.Decided.{outcome_from}
 use Rattle.auction.proofs.decide.outcome_of.Goals as goal
+use Rattle.auction.proofs.decide.outcome_of.Goals.{else-delayable-via-then-delayable+else-reaches, else-delayable-via-else-delayable}
 
 pub returns-then-preventable-exceeds : goal.returns-then-preventable-exceeds
 unfolding outcome_from
@@ -18,7 +18,7 @@ returns-then-reaches c = rw (← c.exceeds.ensures, c.if-preventable-exceeds.fal
 
 pub returns : goal.returns
 unfolding outcome_from
-returns c = ⊎_elim
-    (λ (t, r, l). rw (← c.exceeds.ensures, c.if-preventable-exceeds.false, ne_eqb _ 0 c.if-found-eq0.false, t.taken, ← r.ensures, l.left))
-    (λ l. rw (← c.exceeds.ensures, c.if-preventable-exceeds.false, ne_eqb _ 0 c.if-found-eq0.false, l.left))
-    c.else-delayable.branch
+returns c = elim c.else-delayable.branch [
+  | else-delayable-via-then-delayable+else-reaches w ↦ rw (← c.exceeds.ensures, c.if-preventable-exceeds.false, ne_eqb _ 0 c.if-found-eq0.false, w.if-delayable.true, ← w.reaches.ensures, w.if-reaches.false)
+  | else-delayable-via-else-delayable w ↦ rw (← c.exceeds.ensures, c.if-preventable-exceeds.false, ne_eqb _ 0 c.if-found-eq0.false, w.if-delayable.false)
+]

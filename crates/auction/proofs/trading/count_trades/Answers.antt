@@ -11,18 +11,30 @@ use Rattle.auction.proofs.trading.count_trades.Goals as goal
 use Rattle.auction.proofs.trading.count_trades.Goals.{After-share_out-asks, After-share_out-bids}
 
 abbrev bought : After-share_out-bids → List ℕ
-bought c = take c.share_out-bids.result c.share_out-bids.new.1.1.1.0
+bought c = take c.share_out-bids.result c.share_out-bids.new.list
 
 abbrev sold : After-share_out-asks → List ℕ
-sold c = take c.share_out-asks.result c.share_out-asks.new.1.1.1.0
+sold c = take c.share_out-asks.result c.share_out-asks.new.list
 
 bids-long : (c : After-share_out-bids) → length (bought c) ≡ c.share_out-bids.result
 bids-long c = let pre = c.requires in
-    length-take-le c.share_out-bids.result c.share_out-bids.new.1.1.1.0 (omega (arith, c.share_out-bids.auto.1.1.1.0, c.share_out-bids.ensures.0, pre.0))
+    length-take-le c.share_out-bids.result c.share_out-bids.new.list (omega (arith, c.share_out-bids.auto.list, c.share_out-bids.ensures.0, pre.0))
 
 asks-long : (c : After-share_out-asks) → length (sold c) ≡ c.share_out-asks.result
 asks-long c = let pre = c.requires in
-    length-take-le c.share_out-asks.result c.share_out-asks.new.1.1.1.0 (omega (arith, c.share_out-asks.auto.1.1.1.0, c.share_out-asks.ensures.0, pre.1))
+    length-take-le c.share_out-asks.result c.share_out-asks.new.list (omega (arith, c.share_out-asks.auto.list, c.share_out-asks.ensures.0, pre.1))
+
+pub slice_bounds-pair-end-2 : goal.slice_bounds-pair-end-2
+slice_bounds-pair-end-2 c = sym (bids-long (goal.at.slice_bounds-pair-end-2 c).After-share_out-bids)
+
+pub slice_bounds-pair-end-3 : goal.slice_bounds-pair-end-3
+slice_bounds-pair-end-3 c = sym (asks-long (goal.at.slice_bounds-pair-end-3 c).After-share_out-asks)
+
+pub pair-count-requires : goal.pair-count-requires
+pair-count-requires c = let pre = c.requires in
+    let few = c.share_out-bids.ensures.0 in
+    let few' = c.share_out-asks.ensures.0 in
+    (omega (arith, bids-long (goal.at.pair-count-requires c).After-share_out-bids, few), omega (arith, asks-long (goal.at.pair-count-requires c).After-share_out-asks, few'), omega (arith, bids-long (goal.at.pair-count-requires c).After-share_out-bids, asks-long (goal.at.pair-count-requires c).After-share_out-asks, few, few', pre))
 
 pub overflow_cast-result : goal.overflow_cast-result
 overflow_cast-result c = let pre = c.requires in
