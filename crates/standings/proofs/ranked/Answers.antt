@@ -26,23 +26,23 @@ called c = auction-good c.args.which (sym c.in-Good-new.is ∙ c.new-2.ensures)
 
 -- no more take part than there are places
 few : (c : After-ranked-count) → c.ranked-count.result ≤ places
-few c = let b = c.args.t1.book in
+few c = let b = c.args.session.book in
     omega (arith, c.ranked-count.ensures.0, ranks-fit c.in-Good.on c.in-Good-new.auction b.side b.validity b.limit b.number)
 
 pub returns-in_default : goal.returns-in_default
 returns-in_default c = let a = c.args in
-    queue-out-of-range a.t1 a.side a.which a.list.now (rw (side-refused a.side (sym c.in_default.is ∙ c.new.ensures)))
+    queue-out-of-range a.session a.side a.which a.list.now (rw (side-refused a.side (sym c.in_default.is ∙ c.new.ensures)))
 
 pub returns-in_default-new : goal.returns-in_default-new
 returns-in_default-new c = let a = c.args in
-    queue-out-of-range a.t1 a.side a.which a.list.now (rw ((sided (goal.at.returns-in_default-new c).In-Good).0, auction-refused a.which (sym c.in_default-new.is ∙ c.new-2.ensures)))
+    queue-out-of-range a.session a.side a.which a.list.now (rw ((sided (goal.at.returns-in_default-new c).In-Good).0, auction-refused a.which (sym c.in_default-new.is ∙ c.new-2.ensures)))
 
 pub returns-then-answer-ne0 : goal.returns-then-answer-ne0
 returns-then-answer-ne0 c = let a = c.args in
-    queue-turned-down a.t1 a.side a.which a.list.now (sided (goal.at.returns-then-answer-ne0 c).In-Good) (called (goal.at.returns-then-answer-ne0 c).In-Good-new) c.ranked_refusal-answer.ensures c.if-answer-ne0.true
+    queue-turned-down a.session a.side a.which a.list.now (sided (goal.at.returns-then-answer-ne0 c).In-Good) (called (goal.at.returns-then-answer-ne0 c).In-Good-new) c.ranked_refusal-answer.ensures c.if-answer-ne0.true
 
 pub ranked-count-requires : goal.ranked-count-requires
-ranked-count-requires c = let b = c.args.t1.book in
+ranked-count-requires c = let b = c.args.session.book in
     ranks-fit c.in-Good.on c.in-Good-new.auction b.side b.validity b.limit b.number
 
 pub slice_bounds-ranks-end : goal.slice_bounds-ranks-end
@@ -58,7 +58,7 @@ list_numbers-requires c = let ranked = c.ranked-count in
       arith,
       length-take-le ranked.result ranked.new.ranks (omega (arith, ranked.auto.ranks, few (goal.at.list_numbers-requires c).After-ranked-count)),
       few (goal.at.list_numbers-requires c).After-ranked-count,
-      queue-room a.t1 a.side a.which a.list.now (sided (goal.at.list_numbers-requires c).In-Good) (called (goal.at.list_numbers-requires c).In-Good-new) c.ranked_refusal-answer.ensures c.if-answer-ne0.left,
+      queue-room a.session a.side a.which a.list.now (sided (goal.at.list_numbers-requires c).In-Good) (called (goal.at.list_numbers-requires c).In-Good-new) c.ranked_refusal-answer.ensures c.if-answer-ne0.false,
     )
 
 pub overflow_cast-result : goal.overflow_cast-result
@@ -71,6 +71,6 @@ returns c = let ranked = c.ranked-count in
     let ranks = take n ranked.new.ranks in
     let long : length ranks ≡ n = length-take-le n ranked.new.ranks (omega (arith, ranked.auto.ranks, few (goal.at.returns c).After-ranked-count)) in
     rw (← long, c.list_numbers.ensures)
-    (queue-listed a.t1 a.side a.which a.list.now (sided (goal.at.returns c).In-Good) (called (goal.at.returns c).In-Good-new) c.ranked_refusal-answer.ensures c.if-answer-ne0.left ranks
-    (ap (map (λ (goal.at.returns c).In-Good-new. order_at a.t1.book (place_of_rank (goal.at.returns c).After-slice_known-2-1))) ranked.ensures.1
-    ∙ ranked-by-ranks (legal_price a.t1) a.t1.given a.t1.book c.requires.book-sound (number-room a.t1 c.requires) c.in-Good.on c.in-Good-new.auction))
+    (queue-listed a.session a.side a.which a.list.now (sided (goal.at.returns c).In-Good) (called (goal.at.returns c).In-Good-new) c.ranked_refusal-answer.ensures c.if-answer-ne0.false ranks
+    (ap (map (λ x. order_at a.session.book (place_of_rank x))) ranked.ensures.1
+    ∙ ranked-by-ranks (legal_price a.session) a.session.given a.session.book c.requires.book-sound (number-room a.session c.requires) c.in-Good.on c.in-Good-new.auction))
