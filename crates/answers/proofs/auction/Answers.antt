@@ -1,5 +1,4 @@
 use Prim.Native.Nat.{ℕ, ◌≤◌}
-use mathlib.Core.Logic.{⊎_elim}
 use mathlib.Core.Bool.{false}
 use mathlib.Core.Path.{◌≡◌, refl, sym, ap, ◌∙◌}
 use mathlib.Core.List.{List, [], ◌∷◌}
@@ -10,14 +9,14 @@ use Rattle.terms.specs.Bounds.{places}
 use Rattle.places.specs.Words.{behind-within}
 use Rattle.book.specs.Settling.{settled-as}
 use Rattle.auction.specs.Trading.{asks-part}
-use denote.Enum.Declared.{tag_of}
-use types.Run.{OneOf}
-use Rattle.courses.specs.contracts.Course.{the_type}
+use Rattle.terms.specs.declared.orders.{Auction.Auction}
+use Rattle.auction.specs.declared.{Outcome.Outcome}
 use Rattle.courses.specs.declared.{Course.Course, Course.TheVariants.Refused, Course.TheVariants.HeldBack, Course.TheVariants.TakesPlace}
 use Rattle.courses.specs.Course.{takes_place}
 use Rattle.answers.specs.AuctionCalls.{course_now, course-planned, course-priced, taken-few, leaves_kept, leaves-taken}
 use borrow.Author.Rules.{rules}
 use Rattle.answers.proofs.auction.Goals as goal
+use Rattle.answers.proofs.auction.Goals.{in-TakesPlace, in_default}
 use Rattle.answers.proofs.auction.Goals.{After-behind_taken-end, After-planned-plan, Joined-course}
 
 -- the ranks of both sides
@@ -59,16 +58,17 @@ settle8-requires-in-TakesPlace-2 c = within (goal.at.settle8-requires-in-TakesPl
 
 -- where both ways meet, the course is still that one
 course-met : (c : Joined-course) → ◌≡◌ {A = Course} c.match-course.course c.planned-plan.result.course
-course-met c = ⊎_elim (λ w. w.47 ∙ sym w.1.given.1) (λ w. w.3) c.match-course.branch
+course-met c = elim c.match-course.branch [ in-TakesPlace w ↦ w.course-is ∙ sym w.in-TakesPlace.is | in_default w ↦ w.course-is ]
 
 course-at : (c : Joined-course) → let a = c.args in c.match-course.course ≡ course_now a.session c.requires a.which a.list.now
-course-at c = course-met c ∙ course-is c.before.before
+course-at c = let a = c.args in
+    course-met c ∙ course-planned a.session c.requires a.which a.list.now c.number.result c.number-2.result c.number.ensures c.number-2.ensures c.planned-plan.ensures
 
--- no course of the first two cases takes place
-not-taking : (course : Course) → OneOf (0 ∷ 1 ∷ []) (tag_of the_type course) → takes_place course ≡ false
+-- a course of the first two cases doesn't take place
+not-taking : (course : Course) → ((a : Auction) (o : Outcome) → course ≡ TakesPlace a o → ⊥) → takes_place course ≡ false
 not-taking (Refused n) k = refl
 not-taking (HeldBack o) k = refl
-not-taking (TakesPlace a o) k = absurd (⊎_elim (λ z. omega arith) (λ z. omega arith) k)
+not-taking (TakesPlace a o) k = absurd (k a o refl)
 
 pub standing_after-standing-requires : goal.standing_after-standing-requires
 standing_after-standing-requires c = let a = c.args in
@@ -77,22 +77,22 @@ standing_after-standing-requires c = let a = c.args in
 pub returns : goal.returns
 returns c = let a = c.args in
     let planned = c.planned-plan in
-    ⊎_elim
-    (λ w. leaves-taken a.session c.requires a.which a.list.now c.match-course.course (course-at (goal.at.returns c).Joined-course) c.match-course.session c.match-course.count c.match-course.list
+    elim c.match-course.branch [
+    in-TakesPlace w ↦ leaves-taken a.session c.requires a.which a.list.now c.match-course.course (course-at (goal.at.returns c).Joined-course) c.match-course.session c.match-course.count c.match-course.list
     c.answer_of-answer.result c.answer_of-answer.ensures c.result_of-result.result c.result_of-result.ensures c.standing_after-standing.result c.standing_after-standing.ensures
-    w.47 (ranks (goal.at.returns c).After-planned-plan) planned.result.bids planned.result.asks planned.ensures.buys planned.ensures.sells
+    w.course-is (ranks (goal.at.returns c).After-planned-plan) planned.result.bids planned.result.asks planned.ensures.buys planned.ensures.sells
     (record {
-      taken = w.23.last.0;
-      number = w.26.last.0;
-      member = w.29.last.0;
-      side = w.32.last.0;
-      validity = w.35.last.0;
-      left = w.38.last.0;
-      limit = w.41.last.0;
-      quoted = w.44.last.0;
-    }) w.46 w.14.result w.48 (let e = rw (asks-part planned.result.bids planned.result.asks (ranks (goal.at.returns c).After-planned-plan), w.5.ensures, w.6.ensures) at w.14.ensures in (e.0, e.1, λ h. w.45 ∙ e.2 h)) w.20.result w.20.ensures
-    (settled-as w.14.result.rests a.session.book w.20.result w.23.ensures w.26.ensures w.29.ensures w.32.ensures w.35.ensures w.38.ensures w.41.ensures w.44.ensures))
-    (λ w. leaves_kept a.session c.requires a.which a.list.now c.match-course.course (course-at (goal.at.returns c).Joined-course) c.match-course.session c.match-course.count c.match-course.list
+      taken = w.settle_words.new.taken;
+      number = w.settle32.new.column;
+      member = w.settle16.new.column;
+      side = w.settle8.new.column;
+      validity = w.settle8-in-TakesPlace.new.column;
+      left = w.settle_left.new.lefts;
+      limit = w.settle32-in-TakesPlace.new.column;
+      quoted = w.settle8-in-TakesPlace-2.new.column;
+    }) w.session-is w.traded-closed.result w.count-is (let e = rw (asks-part planned.result.bids planned.result.asks (ranks (goal.at.returns c).After-planned-plan), w.price_of.ensures, w.quantity_of.ensures) at w.traded-closed.ensures in (e.0, e.1, λ h. w.list-is ∙ e.2 h)) w.behind_taken-end.result w.behind_taken-end.ensures
+    (settled-as w.traded-closed.result.rests a.session.book w.behind_taken-end.result w.settle_words.ensures w.settle32.ensures w.settle16.ensures w.settle8.ensures w.settle8-in-TakesPlace.ensures w.settle_left.ensures w.settle32-in-TakesPlace.ensures w.settle8-in-TakesPlace-2.ensures)
+    | in_default w ↦ leaves_kept a.session c.requires a.which a.list.now c.match-course.course (course-at (goal.at.returns c).Joined-course) c.match-course.session c.match-course.count c.match-course.list
     c.answer_of-answer.result c.answer_of-answer.ensures c.result_of-result.result c.result_of-result.ensures c.standing_after-standing.result c.standing_after-standing.ensures
-    (ap takes_place w.3 ∙ not-taking planned.result.course w.0.keys2) w.2 w.4 w.1)
-    c.match-course.branch
+    (ap takes_place w.course-is ∙ not-taking planned.result.course w.in_default.not-TakesPlace) w.session-is w.count-is w.list-is
+    ]
