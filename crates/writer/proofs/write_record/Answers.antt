@@ -6,7 +6,7 @@ use lib.ListN.{length}
 use borrow.Author.Tests.{not-true, not-false}
 use Rattle.records.specs.Fields.{in_range}
 use Rattle.records.specs.Bytes.{length_of}
-use Rattle.writer.specs.WriteCall.{write-out-of-range, write-too-long, write_done_lem}
+use Rattle.writer.proofs.WriteCall.{write-out-of-range, write-too-long, write_done_lem}
 use Rattle.writer.proofs.write_record.Goals as goal
 use Rattle.writer.proofs.write_record.Goals.{Else-not-has_room, Else-not-in_range}
 
