@@ -1,17 +1,10 @@
 -- Invariant: the cells with the trades that are left added are the cells asked for, and nothing is lost on the way.
-use Prim.Native.Nat.{ℕ, suc, ◌+◌, ◌-◌, ◌*◌, ◌<◌}
-use mathlib.Core.Path.{◌≡◌, refl, sym, ◌∙◌}
-use mathlib.Core.List.{List, ◌∷◌}
-use native.Mathlib.Omega.{arith}
-use native.Mathlib.Numerals.{add-one}
-use borrow.Author.Rules.{rules}
+use Prim.Native.Nat.{◌+◌, ◌-◌}
+use mathlib.Core.Path.{◌≡◌}
 use lib.ListN.{length, get_or, drop}
-use Rattle.terms.specs.Bounds.{places}
-use Rattle.trades.specs.declared.{Trade.Trade}
 use Rattle.trades.specs.Trades.{volume}
 use Rattle.trades.specs.Written.{trades_read}
-use Rattle.squares.specs.Square.{square_cells, cell_of, total, added_at, added_to, cell-le-total, add-first, add-first-length, add-first-total, added_none}
-use Rattle.squares.specs.Naming.{trade_at, trade-next, trades-done, trade-listed}
+use Rattle.squares.specs.Square.{square_cells, total, added_to}
 use Rattle.squares.proofs.add_trades.Given as goal
 
 abbrev pub invariant-loop-i : goal.invariant-loop-i

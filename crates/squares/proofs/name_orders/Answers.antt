@@ -1,15 +1,14 @@
-use Prim.Native.Nat.{ℕ, suc, ◌+◌, ◌-◌, ◌*◌, ◌≤◌, ◌<◌}
-use mathlib.Core.Path.{◌≡◌, refl, sym, ap, ◌∙◌}
+use Prim.Native.Nat.{ℕ, suc, ◌+◌, ◌*◌, ◌<◌}
+use mathlib.Core.Path.{◌≡◌, refl, ◌∙◌}
 use native.Mathlib.Omega.{arith}
 use native.Mathlib.Numerals.{add-one}
-use borrow.Author.Rules.{rules}
 use mathlib.Core.List.{List}
-use lib.ListN.{length, get_or, length-set}
+use lib.ListN.{get_or}
 use Rattle.trades.specs.declared.{Trade.Trade}
 use Rattle.terms.specs.Bounds.{places}
-use Rattle.squares.specs.Naming.{trade_at, trade-listed, renamed, renamed-length, renamed-behind, renamed-front, renamed-next}
+use Rattle.squares.specs.Naming.{trade_at, trade-listed, renamed, renamed-behind, renamed-front, renamed-next}
 use Rattle.squares.proofs.name_orders.Goals as goal
-use Rattle.squares.proofs.name_orders.Goals.{After-wide-buy, After-wide-sell, At-loop-i, In-loop-i}
+use Rattle.squares.proofs.name_orders.Goals.{After-wide-buy, After-wide-sell, In-loop-i}
 
 first : (numbers list : List ℕ) → list ≡ renamed (λ p. get_or numbers p 0) 0 list
 unfolding renamed
@@ -22,11 +21,11 @@ next c = trade_at c.args.list.now (c.loop-i.i * 4)
 in-book : (c : In-loop-i) → ((next c).buy < places) × ((next c).sell < places)
 in-book c = c.requires.1 (next c) (trade-listed c.args.count c.args.list.now c.requires.0 c.loop-i.i c.loop-i-test.true)
 
-buy-is : (c : After-wide-buy) → c.wide-buy.result ≡ (next c.before.before).buy
+buy-is : (c : After-wide-buy) → c.wide-buy.result ≡ get_or c.args.list.now (c.loop-i.i * 4) 0
 buy-is c = let a = c.args in
     c.wide-buy.ensures ∙ rw c.loop-i.invariant.1 (renamed-front (λ p. get_or a.numbers.now p 0) c.loop-i.i a.list.now)
 
-sell-is : (c : After-wide-sell) → c.wide-sell.result ≡ (next c.before.before.before.before).sell
+sell-is : (c : After-wide-sell) → c.wide-sell.result ≡ get_or c.args.list.now (c.loop-i.i * 4 + 1) 0
 sell-is c = let a = c.args in
     c.wide-sell.ensures ∙ rw c.loop-i.invariant.1 (renamed-behind (λ p. get_or a.numbers.now p 0) c.loop-i.i a.list.now 1)
 

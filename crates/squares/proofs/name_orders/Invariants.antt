@@ -1,14 +1,8 @@
 -- Invariant: the first i trades are renamed, and the rest of the list is as it was.
-use Prim.Native.Nat.{ℕ, suc, ◌+◌, ◌-◌, ◌*◌, ◌≤◌, ◌<◌}
-use mathlib.Core.Path.{◌≡◌, refl, sym, ap, ◌∙◌}
-use native.Mathlib.Omega.{arith}
-use native.Mathlib.Numerals.{add-one}
-use borrow.Author.Rules.{rules}
-use mathlib.Core.List.{List}
-use lib.ListN.{length, get_or, length-set}
-use Rattle.trades.specs.declared.{Trade.Trade}
-use Rattle.terms.specs.Bounds.{places}
-use Rattle.squares.specs.Naming.{trade_at, trade-listed, renamed, renamed-length, renamed-behind, renamed-front, renamed-next}
+use Prim.Native.Nat.{◌-◌, ◌≤◌}
+use mathlib.Core.Path.{◌≡◌}
+use lib.ListN.{get_or}
+use Rattle.squares.specs.Naming.{renamed}
 use Rattle.squares.proofs.name_orders.Given as goal
 
 abbrev pub invariant-loop-i : goal.invariant-loop-i

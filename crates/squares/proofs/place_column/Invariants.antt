@@ -1,12 +1,10 @@
 -- Invariant: the first places are told.
-use Prim.Native.Nat.{ℕ, ◌-◌, ◌≤◌}
-use mathlib.Core.Path.{◌≡◌, ◌∙◌}
-use mathlib.Core.List.{◌++◌, append-nil}
-use native.Mathlib.Omega.{arith}
-use borrow.Author.Rules.{rules}
+use Prim.Native.Nat.{◌-◌, ◌≤◌}
+use mathlib.Core.Path.{◌≡◌}
+use mathlib.Core.List.{◌++◌}
 use lib.ListN.{drop}
 use Rattle.terms.specs.Bounds.{places}
-use Rattle.squares.specs.Naming.{places_to, place-written}
+use Rattle.squares.specs.Naming.{places_to}
 use Rattle.squares.proofs.place_column.Given as goal
 
 abbrev pub invariant-loop-place : goal.invariant-loop-place

@@ -1,12 +1,9 @@
 -- Invariant: the first cells are those of the row.
-use Prim.Native.Nat.{ℕ, ◌+◌, ◌-◌, ◌≤◌}
-use mathlib.Core.Path.{◌≡◌, sym, ◌∙◌}
-use mathlib.Core.List.{◌++◌, append-nil}
-use native.Mathlib.Omega.{arith}
-use borrow.Author.Rules.{rules}
-use lib.ListN.{length, get_or, take, drop}
-use Rattle.lists.specs.Over.{over-write, over-all}
-use Rattle.squares.specs.Square.{square_members, cell_of, row_at, row-length, cell-in-row}
+use Prim.Native.Nat.{◌-◌, ◌≤◌}
+use mathlib.Core.Path.{◌≡◌}
+use mathlib.Core.List.{◌++◌}
+use lib.ListN.{take, drop}
+use Rattle.squares.specs.Square.{square_members, row_at}
 use Rattle.squares.proofs.row_at.Given as goal
 
 abbrev pub invariant-loop-column : goal.invariant-loop-column

@@ -1,10 +1,5 @@
-use Prim.Native.Nat.{ℕ, ◌+◌, ◌-◌, ◌≤◌}
-use mathlib.Core.Path.{◌≡◌, refl, sym, ap, ◌∙◌}
-use mathlib.Core.List.{List, [], ◌++◌, append-nil}
 use native.Mathlib.Omega.{arith}
-use borrow.Author.Rules.{rules}
-use lib.ListN.{length, drop}
-use Rattle.squares.specs.Square.{square_members, rows_to, rows_none, row_written}
+use Rattle.squares.specs.Square.{rows_none, row_written}
 use Rattle.squares.proofs.square_of.Goals as goal
 
 pub loop-row-init : goal.loop-row-init

@@ -1,11 +1,9 @@
 -- Invariant: the first rows are those of the cells.
-use Prim.Native.Nat.{ℕ, ◌+◌, ◌-◌, ◌≤◌}
-use mathlib.Core.Path.{◌≡◌, refl, sym, ap, ◌∙◌}
-use mathlib.Core.List.{List, [], ◌++◌, append-nil}
-use native.Mathlib.Omega.{arith}
-use borrow.Author.Rules.{rules}
-use lib.ListN.{length, drop}
-use Rattle.squares.specs.Square.{square_members, rows_to, rows_none, row_written}
+use Prim.Native.Nat.{◌-◌, ◌≤◌}
+use mathlib.Core.Path.{◌≡◌}
+use mathlib.Core.List.{◌++◌}
+use lib.ListN.{drop}
+use Rattle.squares.specs.Square.{square_members, rows_to}
 use Rattle.squares.proofs.square_of.Given as goal
 
 abbrev pub invariant-loop-row : goal.invariant-loop-row

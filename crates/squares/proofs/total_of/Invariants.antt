@@ -1,10 +1,8 @@
 -- Invariant: the sum is that of the first cells.
-use Prim.Native.Nat.{ℕ, ◌+◌, ◌-◌, ◌≤◌}
+use Prim.Native.Nat.{◌+◌, ◌-◌, ◌≤◌}
 use mathlib.Core.Path.{◌≡◌}
-use native.Mathlib.Omega.{arith}
-use borrow.Author.Rules.{rules}
 use lib.ListN.{drop}
-use Rattle.squares.specs.Square.{square_cells, total, total-next, total-all}
+use Rattle.squares.specs.Square.{square_cells, total}
 use Rattle.squares.proofs.total_of.Given as goal
 
 abbrev pub invariant-loop-cell : goal.invariant-loop-cell

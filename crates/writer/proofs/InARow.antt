@@ -14,7 +14,7 @@ use Rattle.records.specs.Walk.{walk}
 use Rattle.records.specs.RoundTrip.{bytes-length, good-file-back}
 use Rattle.writer.specs.declared.{Written.Written}
 use Rattle.writer.specs.Writing.{write_leaves, write_done, written, written_all}
-use Rattle.writer.specs.WriteCall.{write-out-of-range, write-too-long, write_done_lem}
+use Rattle.writer.proofs.WriteCall.{write-out-of-range, write-too-long, write_done_lem}
 
 -- one that is in range, and that the buffer holds
 written-whole : (r : Record) (buffer : List ℕ) (place : ℕ) → T (in_range r) → place + length_of r ≤ length buffer → written r buffer place ≡ write_done r buffer place
