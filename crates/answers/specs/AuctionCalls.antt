@@ -15,18 +15,22 @@ use Rattle.book.specs.Resting.{resting}
 use Rattle.book.specs.ByPlace.{resting-length}
 use Rattle.places.specs.Places.{behind_taken}
 use Rattle.book.specs.Settling.{settled_to}
-use Rattle.queue.specs.Part.{taking_part-elim, taking_part-length, taking_part-distinct}
-use Rattle.queue.specs.Reach.{resting-sound, resting-distinct}
-use Rattle.price.specs.Interest.{accepts, interest, executable-within}
+use Rattle.queue.proofs.Part.{taking_part-elim, taking_part-length, taking_part-distinct}
+use Rattle.queue.proofs.Reach.{resting-sound, resting-distinct}
+use Rattle.price.specs.Interest.{accepts, interest}
+use Rattle.price.proofs.Interest.{executable-within}
 use Rattle.trades.specs.declared.{Trade.Trade}
 use Rattle.auction.specs.declared.{Outcome.Outcome, Outcome.TheVariants.Traded, Outcome.TheVariants.NoTrade, Outcome.TheVariants.NonOpening, Outcome.TheVariants.Delayed}
 use Rattle.trades.specs.Trades.{volume}
-use Rattle.trades.specs.TradesOf.{trades_of, trades-none, trades-volume, trades-count}
+use Rattle.trades.specs.TradesOf.{trades_of}
+use Rattle.trades.proofs.TradesOf.{trades-none, trades-volume, trades-count}
 use Rattle.auction.specs.declared.trading.{Closed.Closed}
-use Rattle.auction.specs.Outcome.{outcome, trades, price_answered, quantity_answered, outcome-traded}
-use Rattle.auction.specs.Trading.{ranks_on, outcome_in, trades_in, rests_in, ranks-few}
-use Rattle.auction.specs.OutcomeIn.{outcome-in}
-use Rattle.auction.specs.TradesIn.{trades-in, rests-in}
+use Rattle.auction.specs.Outcome.{outcome, trades, price_answered, quantity_answered}
+use Rattle.auction.proofs.OutcomeLaws.{outcome-traded}
+use Rattle.auction.specs.Trading.{ranks_on, outcome_in, trades_in, rests_in}
+use Rattle.auction.proofs.TradingLaws.{ranks-few}
+use Rattle.auction.proofs.OutcomeIn.{outcome-in}
+use Rattle.auction.proofs.TradesIn.{trades-in, rests-in}
 use Rattle.trades.specs.Written.{quadruples}
 use Rattle.session.specs.declared.{Session.Session}
 use Rattle.controls.specs.Phases.{phase_after}

@@ -12,12 +12,13 @@ use Rattle.book.specs.Columns.{order_at}
 use Rattle.book.specs.Resting.{resting}
 use Rattle.book.specs.ByPlace.{resting-intro}
 use Rattle.queue.specs.Distinct.{Distinct}
-use Rattle.queue.specs.Reach.{resting-distinct}
+use Rattle.queue.proofs.Reach.{resting-distinct}
 use Rattle.queue.specs.RankNumbers.{place_of_rank, along}
-use Rattle.queue.specs.Queue.{ranks-known}
+use Rattle.queue.proofs.Queue.{ranks-known}
 use Rattle.trades.specs.declared.{Trade.Trade}
 use Rattle.trades.specs.Trades.{volume}
-use Rattle.trades.specs.Written.{quadruples, quadruples-length, trades_read, trades-back}
+use Rattle.trades.specs.Written.{quadruples, trades_read}
+use Rattle.trades.proofs.Written.{quadruples-length, trades-back}
 use Rattle.auction.specs.declared.{Outcome.Outcome, Outcome.TheVariants.Traded, Outcome.TheVariants.NoTrade, Outcome.TheVariants.NonOpening, Outcome.TheVariants.Delayed}
 use Rattle.auction.specs.Outcome.{price_answered, quantity_answered}
 use Rattle.auction.specs.declared.trading.{Closed.Closed}

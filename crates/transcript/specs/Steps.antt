@@ -9,9 +9,9 @@ use Rattle.trades.specs.declared.{Trade.Trade}
 use Rattle.refusals.specs.Checks.{answered-cases}
 use Rattle.book.specs.Resting.{resting, place_in}
 use Rattle.book.specs.ByPlace.{resting-length}
-use Rattle.queue.specs.Part.{taking_part-length}
+use Rattle.queue.proofs.Part.{taking_part-length}
 use Rattle.auction.specs.declared.{Outcome.Outcome, Outcome.TheVariants.Traded, Outcome.TheVariants.NoTrade, Outcome.TheVariants.NonOpening, Outcome.TheVariants.Delayed}
-use Rattle.trades.specs.TradesOf.{trades-count}
+use Rattle.trades.proofs.TradesOf.{trades-count}
 use Rattle.auction.specs.Outcome.{trades}
 use Rattle.session.specs.declared.{Session.Session}
 use Rattle.entries.specs.declared.{Entered.Entered, Deleted.Deleted}

@@ -8,7 +8,7 @@ use lib.Seq.{length-take-le}
 use Rattle.terms.specs.Bounds.{places}
 use Rattle.places.specs.Words.{behind-within}
 use Rattle.book.specs.Settling.{settled-as}
-use Rattle.auction.specs.Trading.{asks-part}
+use Rattle.auction.proofs.TradingLaws.{asks-part}
 use Rattle.terms.specs.declared.orders.{Auction.Auction}
 use Rattle.auction.specs.declared.{Outcome.Outcome}
 use Rattle.courses.specs.declared.{Course.Course, Course.TheVariants.Refused, Course.TheVariants.HeldBack, Course.TheVariants.TakesPlace}

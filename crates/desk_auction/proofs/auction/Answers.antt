@@ -11,7 +11,8 @@ use Rattle.places.specs.Words.{behind-within}
 use Rattle.book.specs.Settling.{settled-as}
 use Rattle.trades.specs.declared.{Trade.Trade}
 use Rattle.auction.specs.Outcome.{quantity_answered}
-use Rattle.auction.specs.Trading.{trades_in, asks-part}
+use Rattle.auction.specs.Trading.{trades_in}
+use Rattle.auction.proofs.TradingLaws.{asks-part}
 use denote.Enum.Declared.{tag_of}
 use types.Run.{OneOf}
 use Rattle.courses.specs.contracts.Course.{the_type}

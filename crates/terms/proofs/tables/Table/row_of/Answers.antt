@@ -1,4 +1,4 @@
-use Rattle.terms.specs.TableLaws.{all-counted, row-of-all}
+use Rattle.terms.proofs.TableLaws.{all-counted, row-of-all}
 use Rattle.terms.specs.Tables.{row_of}
 use borrow.Author.Rules.{rules}
 use Rattle.terms.proofs.tables.Table.row_of.Goals as goal
