@@ -30,7 +30,7 @@ use Rattle.courses.specs.declared.{Course.Course, Course.TheVariants.Refused, Co
 use Rattle.courses.specs.Answer.{answer_with}
 use Rattle.courses.specs.Course.{result_by, takes_place}
 use Rattle.answers.specs.Auctions as plain
-use Rattle.answers.specs.AuctionCalls.{course_now, taken_trades, taken-fits, taken-volume, taken-ranks, taken-count}
+use Rattle.answers.proofs.AuctionCalls.{course_now, taken_trades, taken-fits, taken-volume, taken-ranks, taken-count}
 use Rattle.squares.specs.Square.{square_members, InBook, total, added_to, added_none}
 use Rattle.squares.specs.Naming.{named, place_column, renamed, renamed-written}
 use Rattle.squares.specs.Pairs.{pairs-named, pairs_of, along-named, at-a-rank, named-volume, added-named}

@@ -21,8 +21,8 @@ use Rattle.session.specs.declared.{Session.Session}
 use Rattle.session.specs.Sound.{legal_price}
 use Rattle.session.specs.State.{part}
 use Rattle.answers.specs.Auctions as plain
-use Rattle.answers.specs.SoundAfter.{auctioned-sound}
-use Rattle.answers.specs.AuctionCalls.{traded-within}
+use Rattle.answers.proofs.SoundAfter.{auctioned-sound}
+use Rattle.answers.proofs.AuctionCalls.{traded-within}
 use Rattle.squares.specs.Square.{total, added_to, all-added-length, all-added-most}
 use Rattle.desk.specs.declared.{Desk.Desk}
 use Rattle.desk.specs.Desk.{known}

@@ -17,7 +17,7 @@ use Rattle.session.specs.declared.{Session.Session}
 use Rattle.entries.specs.declared.{Entered.Entered, Deleted.Deleted}
 use Rattle.session.specs.Sound.{Sound}
 use Rattle.entries.specs.SoundAfter.{started-sound, entered-sound, deleted-sound}
-use Rattle.answers.specs.SoundAfter.{auctioned-sound}
+use Rattle.answers.proofs.SoundAfter.{auctioned-sound}
 use Rattle.answers.specs.Auctions.{auction_checks, auctioned, outcome_of, trades_now}
 use Rattle.session.specs.State.{part}
 use Rattle.records.specs.declared.{kinds.Record.Record, kinds.Deletion.Deletion}

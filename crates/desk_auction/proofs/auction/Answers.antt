@@ -18,7 +18,8 @@ use types.Run.{OneOf}
 use Rattle.courses.specs.contracts.Course.{the_type}
 use Rattle.courses.specs.declared.{Course.Course, Course.TheVariants.Refused, Course.TheVariants.HeldBack, Course.TheVariants.TakesPlace}
 use Rattle.courses.specs.Course.{takes_place}
-use Rattle.answers.specs.AuctionCalls.{course_now, course-planned, course-priced, taken-few, leaves_as, leaves_kept, leaves-taken}
+use Rattle.answers.specs.AuctionCalls.{leaves_as}
+use Rattle.answers.proofs.AuctionCalls.{course_now, course-planned, course-priced, taken-few, leaves_kept, leaves-taken}
 use Rattle.trades.specs.Written.{trades_read}
 use Rattle.courses.specs.Course.{result_by}
 use Rattle.squares.specs.Square.{added_to, added_none}

@@ -2,7 +2,7 @@ use mathlib.Core.Path.{sym, subst}
 use borrow.Author.Rules.{rules}
 use Rattle.session.specs.Sound.{Sound}
 use Rattle.answers.specs.Auctions.{AuctionLeaves}
-use Rattle.answers.specs.SoundAfter.{auctioned-sound}
+use Rattle.answers.proofs.SoundAfter.{auctioned-sound}
 use Rattle.looks.proofs.auctioned.Statement.{statement}
 use Rattle.looks.proofs.auctioned.Tie as tie
 

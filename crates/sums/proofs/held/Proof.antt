@@ -2,7 +2,7 @@ use mathlib.Core.Path.{sym, subst}
 use borrow.Author.Rules.{rules}
 use Rattle.answers.specs.Auctions.{AuctionLeaves}
 use Rattle.session.specs.Sound.{Sound}
-use Rattle.answers.specs.SoundAfter.{auctioned-sound}
+use Rattle.answers.proofs.SoundAfter.{auctioned-sound}
 use Rattle.sums.proofs.held.Statement.{statement}
 use Rattle.sums.proofs.held.Tie as tie
 
