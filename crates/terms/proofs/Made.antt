@@ -7,7 +7,6 @@ use Rattle.terms.specs.Orders.{side_number, validity_number, limit_number, is_si
 use Rattle.terms.specs.Tables.{on_step, is_table, is_reference}
 use Rattle.terms.specs.Parameters.{are_parameters, is_start, parameters_from, parameters_of}
 use Rattle.terms.specs.declared.kinds.{Member.Member, MemberMade.MemberMade, QuantityMade.QuantityMade, Number.Number, NumberMade.NumberMade, Price.Price, PriceMade.PriceMade, CollarFactorMade.CollarFactorMade, DelayThresholdMade.DelayThresholdMade, OrderValueMade.OrderValueMade}
-use Rattle.terms.specs.declared.tables.{Table.Table}
 use Rattle.terms.specs.declared.parameters.{Start.Start, Parameters.Parameters, ParametersMade.ParametersMade}
 use Rattle.terms.specs.Quotes.{is_quote_side, quote_side_from, quote_side_of, is_quote, quote_from, quote_of}
 use Rattle.terms.specs.declared.quote_terms.{SideEntry.SideEntry, QuoteEntry.QuoteEntry, QuoteSideMade.QuoteSideMade, Quote.Quote, QuoteMade.QuoteMade}

@@ -1,5 +1,5 @@
 -- Whether two sides are one.
-use Rattle.std.specs.Prelude.{ℕ, Bool, true, false, ◌≡◌, refl, T, eqb}
+use Rattle.std.specs.Prelude.{◌≡◌, refl, T, eqb}
 use Rattle.terms.specs.Orders.{side_number}
 use Rattle.terms.specs.declared.orders.{Side.Side, Side.TheVariants.Buy, Side.TheVariants.Sell}
 use Rattle.terms.specs.Sides.{same_side}

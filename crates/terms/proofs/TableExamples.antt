@@ -1,7 +1,6 @@
 -- Worked examples of tables of steps: 02 K6. From 1 on steps of 1, from 1,000 on steps of 5, from 2,500 on steps of 100.
-use Rattle.std.specs.Prelude.{true, false, ◌≡◌, refl, ℕ}
+use Rattle.std.specs.Prelude.{true, false, ◌≡◌, refl}
 use Rattle.terms.specs.Tables.{no_row, row_of, on_step, is_table, one_row}
-use Rattle.terms.specs.declared.tables.{Row.Row, Table.Table}
 use Rattle.terms.specs.TableExamples.{row, sample, three}
 
 a-table : is_table sample ≡ true

@@ -1,6 +1,6 @@
 -- The laws of tables of steps, 02 K6: the row of a price, and a table tested row by row.
-use Rattle.std.specs.Prelude.{ℕ, zero, suc, ◌+◌, ◌≤◌, ◌<◌, Bool, true, false, cond, ◌&&◌, ◌⊎◌, ◌≡◌, refl, List, [], ◌∷◌, T, leb, ltb, eqb, length, take, drop, get_or}
-use Rattle.std.proofs.Common.{inl, inr, ⊎_elim, sym, ◌∙◌, ap, arith, leb→le, take_all, length-take-le, le-leb, leb-true, leb-false, ltb-true, ltb-false, eqb-true}
+use Rattle.std.specs.Prelude.{ℕ, zero, suc, ◌+◌, ◌≤◌, ◌<◌, Bool, true, false, ◌&&◌, ◌⊎◌, ◌≡◌, refl, List, [], ◌∷◌, T, leb, ltb, eqb, length, take, drop, get_or}
+use Rattle.std.proofs.Common.{inl, inr, ⊎_elim, ap, arith, leb→le, take_all, length-take-le, le-leb, leb-true, leb-false, ltb-true, ltb-false, eqb-true}
 use Rattle.std.proofs.lemmas.Bool.{lt-leb}
 use Rattle.lists.specs.Tests.{passes, and_both}
 use Rattle.lists.specs.Choice.{all}

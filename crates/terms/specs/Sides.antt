@@ -1,6 +1,5 @@
 -- Whether two sides are one.
-use Rattle.std.specs.Prelude.{ℕ, Bool, true, false, ◌≡◌, refl, T, eqb}
-use Rattle.terms.specs.Orders.{side_number}
+use Rattle.std.specs.Prelude.{Bool, true, false}
 use Rattle.terms.specs.declared.orders.{Side.Side, Side.TheVariants.Buy, Side.TheVariants.Sell}
 
 abbrev pub same_side : Side → Side → Bool

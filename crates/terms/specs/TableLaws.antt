@@ -1,12 +1,9 @@
 -- The laws of tables of steps, 02 K6: the row of a price, and a table tested row by row.
-use Rattle.std.specs.Prelude.{ℕ, zero, suc, ◌+◌, ◌≤◌, ◌<◌, Bool, true, false, cond, ◌&&◌, ◌⊎◌, ◌≡◌, refl, List, [], ◌∷◌, T, leb, ltb, eqb, length, take, drop, get_or}
-use Rattle.std.proofs.Common.{inl, inr, ⊎_elim, sym, ◌∙◌, ap, arith, leb→le, take_all, length-take-le, le-leb, leb-true, leb-false, ltb-true, ltb-false, eqb-true}
-use Rattle.std.proofs.lemmas.Bool.{lt-leb}
-use Rattle.lists.specs.Tests.{passes, and_both}
+use Rattle.std.specs.Prelude.{ℕ, ◌≤◌, ◌<◌, ◌≡◌, List, T, length, drop, get_or}
 use Rattle.lists.specs.Choice.{all}
-use Rattle.terms.specs.Bounds.{min_price, min_rows, max_rows}
-use Rattle.terms.specs.Kinds.{within, is_step, is_multiple}
-use Rattle.terms.specs.Tables.{all_rows, rows, no_row, later_of, last_of, row_of, is_row, begins_lowest, rise, is_no_row, is_table, on_step, one_row, row_follows, rows_follow}
+use Rattle.terms.specs.Bounds.{min_rows, max_rows}
+use Rattle.terms.specs.Kinds.{within}
+use Rattle.terms.specs.Tables.{all_rows, rows, no_row, is_row, begins_lowest, rise, is_no_row}
 use Rattle.terms.specs.declared.tables.{Row.Row, Table.Table}
 
 -- ---- what a table is
