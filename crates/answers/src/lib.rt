@@ -1,4 +1,6 @@
 // The auction. Its promise is one equation: everything that it returns, the session after it and the lent list (A1).
+#![tactic(auto)]
+
 ghost use Rattle.std.specs.Prelude.{◌≡◌};
 ghost use Rattle.session.specs.Sound.{Sound};
 ghost use Rattle.answers.specs.Auctions.{auction_leaves, auctioned};
@@ -11,7 +13,7 @@ use places::behind_taken;
 use session::Session;
 use terms::Place;
 
-#[derive(Drop)]
+#[derive(Clone, Copy)]
 pub struct Auctioned {
     pub answer: u8,
     pub result: AuctionAnswer,

@@ -14,7 +14,7 @@ use terms::{Auction, Limit, Place, Side};
 use trades::pair;
 
 // The outcome at a moment, and how many take part on each side.
-#[derive(Drop)]
+#[derive(Clone, Copy)]
 pub struct View {
     pub outcome: Outcome,
     pub bids: usize,
@@ -22,7 +22,7 @@ pub struct View {
 }
 
 // What rests at each place after an auction, and how many trades there were.
-#[derive(Drop)]
+#[derive(Clone, Copy)]
 pub struct Closed {
     pub rests: [u32; Place::COUNT],
     pub count: u32,

@@ -1,6 +1,8 @@
 // What an auction, a theoretical answer and a ranked queue cost. Three bytes on standard input say the book and the call:
 // the size, `a` to `d` (2, 32, 128 or 512 orders); the orders, `o` with one limit, `w` the worst, else mixed; the call, `a` an opening, `c` an
 // opening and a closing, `t` a theoretical answer, `q` a ranked queue, any other none. tools/bench.sh counts the instructions.
+#![tactic(auto)]
+
 ghost use Rattle.std.specs.Prelude.{◌≤◌, length};
 ghost use Rattle.session.specs.Sound.{Sound};
 ghost use Rattle.terms.specs.Bounds.{trade_list_length};
@@ -11,7 +13,7 @@ use terms::{Auction, DelayThreshold, Entry, OneStep, Side, Validity};
 
 const REFERENCE: u32 = 100_000;
 
-#[derive(Drop)]
+#[derive(Clone, Copy)]
 struct LastCall {
     result: AuctionAnswer,
     session: Session,

@@ -1,5 +1,7 @@
 // The book: 512 places shared by both sides, as columns of numbers, and eight words that say which places are taken
 // (01 "Numbers and their bounds"). A free place holds the empty value 0 in every column.
+#![tactic(auto)]
+
 mod columns;
 mod hints;
 mod settling;
@@ -10,7 +12,7 @@ use places::WORDS;
 pub use settling::{settle_left, settle_words, settle8, settle16, settle32};
 use terms::Place;
 
-#[derive(Drop)]
+#[derive(Clone, Copy)]
 pub struct Book {
     pub taken: [u64; WORDS],
     pub number: [u32; Place::COUNT],
@@ -24,7 +26,7 @@ pub struct Book {
 }
 
 // What the columns hold at a place, the wide ones first: so a change travels in registers.
-#[derive(Drop)]
+#[derive(Clone, Copy)]
 pub struct Values {
     pub number: u32,
     pub left: u32,

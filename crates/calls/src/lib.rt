@@ -1,6 +1,8 @@
 // The public face: a session, its eight calls and what they return, in the words of 01. Each call refuses by its checks in their order, and its promise
 // is one equation.
 // Auction: refusals 1, 2, 4, 12.
+#![tactic(auto)]
+
 pub use answers::{Auctioned, auction};
 // The four numbers of an auction and of the theoretical answer.
 pub use courses::AuctionAnswer;

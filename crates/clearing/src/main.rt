@@ -1,5 +1,7 @@
 // The clearing program: runs a session file from standard input in a session that keeps the square, prints the session's lines, and then who owes whom
 // (02 K5).
+#![tactic(auto)]
+
 ghost use Rattle.std.specs.Prelude.{◌≡◌, ◌≤◌, length};
 ghost use Rattle.records.specs.Lengths.{length_bound};
 ghost use Rattle.transcript.specs.Steps.{record_room};

@@ -1,4 +1,6 @@
 // In which phase a call is allowed, and the controls of an entry (01 "Phases" and "Refusals by number").
+#![tactic(auto)]
+
 mod entry_controls;
 mod phases;
 

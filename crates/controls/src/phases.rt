@@ -4,7 +4,7 @@ ghost use Rattle.controls.specs.Phases.{has_started, is_pre_opening, is_day, is_
 
 use terms::{Auction, Validity};
 
-#[derive(Drop)]
+#[derive(Clone, Copy)]
 pub enum Phase {
     Fresh,
     PreOpening,

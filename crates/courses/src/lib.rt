@@ -1,4 +1,6 @@
 // What a call of an auction comes to, before anything changes: it is refused, its outcome holds it back, or it takes place (01 "Outcomes").
+#![tactic(auto)]
+
 ghost use Rattle.std.specs.Prelude.{◌≡◌, ◌≤◌, length};
 ghost use Rattle.terms.specs.Bounds.{places};
 ghost use Rattle.auction.specs.Outcome.{price_answered, quantity_answered};
@@ -11,7 +13,7 @@ use controls::{Phase, phase_after};
 use terms::{Auction, AuctionMade, Place, Price};
 
 // The four numbers of an auction and of the theoretical answer.
-#[derive(Drop)]
+#[derive(Clone, Copy)]
 pub struct AuctionAnswer {
     pub outcome: u8,
     pub price: u32,
@@ -20,7 +22,7 @@ pub struct AuctionAnswer {
 }
 
 // Outcomes 3 and 4 hold an auction back; with 1 and 2 it takes place.
-#[derive(Drop)]
+#[derive(Clone, Copy)]
 pub enum Course {
     Refused(u8),
     HeldBack(Outcome),
@@ -28,7 +30,7 @@ pub enum Course {
 }
 
 // The course of a call, and how many take part on each side where it isn't refused.
-#[derive(Drop)]
+#[derive(Clone, Copy)]
 pub struct Plan {
     pub course: Course,
     pub bids: usize,
@@ -36,7 +38,7 @@ pub struct Plan {
 }
 
 // What an auction changes in a session beside the book.
-#[derive(Drop)]
+#[derive(Clone, Copy)]
 pub struct Standing {
     pub phase: Phase,
     pub delayed: bool,

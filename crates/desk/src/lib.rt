@@ -1,5 +1,7 @@
 // A session that keeps the square (02 K5): a type of its own around a session, with the session's calls. It goes into a call by value and comes back by
 // value; its auction stands in `desk_auction`.
+#![tactic(auto)]
+
 mod entering;
 
 ghost use Rattle.std.specs.Prelude.{◌≡◌};
@@ -13,7 +15,7 @@ use session::Session;
 use squares::{CELLS, MEMBERS, square_of};
 use terms::{Place, Start};
 
-#[derive(Drop)]
+#[derive(Clone, Copy)]
 pub struct Desk {
     pub session: Session,
     // The members in the order of their first accepted entry, and how many.
@@ -25,20 +27,20 @@ pub struct Desk {
     pub totals: [u64; CELLS],
 }
 
-#[derive(Drop)]
+#[derive(Clone, Copy)]
 pub struct Started {
     pub answer: u8,
     pub desk: Desk,
 }
 
-#[derive(Drop)]
+#[derive(Clone, Copy)]
 pub struct Entered {
     pub answer: u8,
     pub number: u32,
     pub desk: Desk,
 }
 
-#[derive(Drop)]
+#[derive(Clone, Copy)]
 pub struct Quoted {
     pub answer: u8,
     pub bid: u32,
@@ -46,7 +48,7 @@ pub struct Quoted {
     pub desk: Desk,
 }
 
-#[derive(Drop)]
+#[derive(Clone, Copy)]
 pub struct Deleted {
     pub answer: u8,
     pub desk: Desk,

@@ -1,5 +1,7 @@
 // The auction of a session that keeps the square (02 K5): the session's auction, whose trades are added to their cells before the book is settled. Its promise
 // is one equation: everything that it returns, the desk after it and the lent list.
+#![tactic(auto)]
+
 ghost use Rattle.std.specs.Prelude.{◌≡◌};
 ghost use Rattle.desk.specs.Sound.{SoundDesk};
 ghost use Rattle.desk_auction.specs.Auctions.{auction_leaves, auctioned};
@@ -14,7 +16,7 @@ use session::Session;
 use squares::{clear_trades, place_column};
 use terms::Place;
 
-#[derive(Drop)]
+#[derive(Clone, Copy)]
 pub struct Auctioned {
     pub answer: u8,
     pub result: AuctionAnswer,

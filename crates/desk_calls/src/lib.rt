@@ -1,4 +1,6 @@
 // The public face of a session that keeps the square (02 K5): the calls of a session, each with the session's promise, 16 in its row, and the square.
+#![tactic(auto)]
+
 ghost use Rattle.std.specs.Prelude.{◌≡◌};
 ghost use Rattle.foresight.specs.Theoretical.{theoretical};
 ghost use Rattle.standings.specs.Queues.{queue_leaves, queued};

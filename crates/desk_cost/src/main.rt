@@ -2,6 +2,8 @@
 // 509 orders and a quote. Its orders are those of auction_cost, here of 32 members by turns: `o` with one limit, `w` the worst, else mixed. The
 // call: `a` an opening, `c` a closing, which is refused, `o` an order and `q` a quote of the member of the last row, `s` the square, any other
 // none. tools/bench.sh counts the instructions.
+#![tactic(auto)]
+
 ghost use Rattle.std.specs.Prelude.{◌≤◌};
 ghost use Rattle.desk.specs.Sound.{SoundDesk};
 
@@ -16,7 +18,7 @@ const REFERENCE: u32 = 100_000;
 
 const LAST: u16 = 32;
 
-#[derive(Drop)]
+#[derive(Clone, Copy)]
 struct LastCall {
     answer: u8,
     result: AuctionAnswer,

@@ -1,5 +1,7 @@
 // A record of a session file carried out in a session that keeps the square, and its lines written (01 "Session file"; 02 K5). Its promise says which lines
 // these are and which desk is left.
+#![tactic(auto)]
+
 ghost use Rattle.std.specs.Prelude.{◌≡◌, ◌+◌, ◌≤◌, length};
 ghost use Rattle.terms.specs.Bounds.{trade_list_length};
 ghost use Rattle.lists.specs.Put.{Wrote};
@@ -16,7 +18,7 @@ use terms::{Entry, QuoteEntry, Start};
 use transcript::auction_line;
 
 // The desk after a record, and the place behind its lines.
-#[derive(Drop)]
+#[derive(Clone, Copy)]
 pub struct Stepped {
     pub desk: Desk,
     pub at: usize,

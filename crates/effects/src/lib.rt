@@ -1,5 +1,6 @@
 // What an order, a deletion and a quote change, found from the parts of a session that decide it: a refusal, or a change that whoever holds a session
 // stores in it.
+#![tactic(auto)]
 mod quoting;
 
 ghost use Rattle.std.specs.Prelude.{◌≡◌};
@@ -14,7 +15,7 @@ use terms::{
 };
 
 // The last number given, a word of the places, and the values at a place.
-#[derive(Drop)]
+#[derive(Clone, Copy)]
 pub struct Change {
     pub given: u32,
     pub place: usize,
@@ -22,7 +23,7 @@ pub struct Change {
     pub values: Values,
 }
 
-#[derive(Drop)]
+#[derive(Clone, Copy)]
 pub enum Effect {
     Refused(u8),
     Done(Change),

@@ -11,7 +11,7 @@ use terms::{Parameters, Place, Price, Quote, QuoteEntry, QuoteMade};
 
 // The last number given, where the old sides stood, the new ones, and where they stand. It begins as `Change` is laid out, so that
 // where either may come both travel in registers.
-#[derive(Drop)]
+#[derive(Clone, Copy)]
 pub struct QuoteChange {
     pub given: u32,
     pub old: Pair,
@@ -20,7 +20,7 @@ pub struct QuoteChange {
     pub fresh: Pair,
 }
 
-#[derive(Drop)]
+#[derive(Clone, Copy)]
 pub enum QuoteEffect {
     Refused(u8),
     Done(QuoteChange),

@@ -1,5 +1,6 @@
 // Start, order and delete: the calls that a session's entries come in by, quotes apart. The promise of each is one equation: everything that it returns and the
 // session after it (A1).
+#![tactic(auto)]
 mod changes;
 
 ghost use Rattle.std.specs.Prelude.{◌≡◌};
@@ -12,20 +13,20 @@ use effects::{Effect, delete_effect, order_effect};
 use session::Session;
 use terms::{Entry, Parameters, ParametersMade, Start};
 
-#[derive(Drop)]
+#[derive(Clone, Copy)]
 pub struct Started {
     pub answer: u8,
     pub session: Session,
 }
 
-#[derive(Drop)]
+#[derive(Clone, Copy)]
 pub struct Entered {
     pub answer: u8,
     pub number: u32,
     pub session: Session,
 }
 
-#[derive(Drop)]
+#[derive(Clone, Copy)]
 pub struct Deleted {
     pub answer: u8,
     pub session: Session,

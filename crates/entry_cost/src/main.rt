@@ -1,6 +1,7 @@
 // What one order, one quote and one deletion cost where the book is full. It makes a session in which 511 orders rest, 509 and the two sides of a
 // quote, and one call more by the byte on standard input: `o` an order, `q` the quote overwritten, `d` a deletion, any other none. tools/bench.sh
 // counts the instructions.
+#![tactic(auto)]
 ghost use Rattle.std.specs.Prelude.{◌≤◌};
 ghost use Rattle.session.specs.Sound.{Sound};
 
@@ -12,7 +13,7 @@ const ORDERS: u32 = 509;
 
 const MEMBER: u16 = 7;
 
-#[derive(Drop)]
+#[derive(Clone, Copy)]
 struct LastCall {
     answer: u8,
     session: Session,

@@ -1,11 +1,12 @@
 // Bytes of standard input, read into a lent buffer behind those that are held.
+#![tactic(auto)]
 ghost use Rattle.std.specs.Prelude.{◌≡◌, ◌-◌, ◌≤◌, ◌<◌, length, take, drop};
 ghost use Rattle.feed.specs.HeldBytes.{Within, held_in, ReadBehind};
 
 use libc::{STDERR_FILENO, STDIN_FILENO};
 
 // The bytes of the buffer that are not told yet, and whether more can come.
-#[derive(Drop)]
+#[derive(Clone, Copy)]
 pub struct Held {
     pub from: usize,
     pub to: usize,

@@ -1,5 +1,6 @@
 // The theoretical answer: what the auction would answer at this moment, with no change (01 "Outcomes"). Its promise is one equation: everything that it
 // returns (A1).
+#![tactic(auto)]
 ghost use Rattle.std.specs.Prelude.{◌≡◌};
 ghost use Rattle.courses.specs.Answer.{answer_of};
 ghost use Rattle.answers.specs.Auctions.{outcome_of};
@@ -12,7 +13,7 @@ use courses::{AuctionAnswer, answer_with, delayable, no_answer, preventable};
 use session::Session;
 use terms::{Auction, AuctionMade, Place};
 
-#[derive(Drop)]
+#[derive(Clone, Copy)]
 pub struct Foreseen {
     pub answer: u8,
     pub result: AuctionAnswer,

@@ -1,4 +1,5 @@
 // The text of an answer, as the session program prints it (01 "Session file"; 02 K2).
+#![tactic(auto)]
 ghost use Rattle.std.specs.Prelude.{◌≡◌};
 ghost use Rattle.lines.specs.Line.{numbered_line};
 
@@ -26,7 +27,7 @@ pub const LINE_ROOM: usize = DIGITS + ANSWER_ROOM;
 pub const TRADE_ROOM: usize = 5 + 3 * NUMBER_ROOM + 1;
 
 // What a record was answered: its word says how many of the numbers follow the answer.
-#[derive(Drop)]
+#[derive(Clone, Copy)]
 pub struct Line {
     pub word: Word,
     pub answer: u64,

@@ -7,7 +7,7 @@ ghost use Rattle.lists.specs.Put.{Wrote};
 use text::put_bytes;
 
 // The word of a line: the kind of record that it is about.
-#[derive(Drop)]
+#[derive(Clone, Copy)]
 pub enum Word {
     Start,
     Order,

@@ -19,7 +19,7 @@ const LARGEST_TOTAL: u64 = 18_446_744_073_709_551_615;
 const ONES_TOTAL: u64 = Place::COUNT as u64 - 1;
 
 // The answer: 0 or the refusal, how many entries the part has, and its last one.
-#[derive(Drop)]
+#[derive(Clone, Copy)]
 struct Front {
     answer: u8,
     length: usize,

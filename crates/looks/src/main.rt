@@ -1,6 +1,7 @@
 // The three calls that change nothing, run on a session file: the theoretical answer, the ranked queue and the filled front (01 "Outcomes").
 // The program looks at the session before each auction and where the walk ends, and prints what they answer; tools/compare.sh holds that to
 // the second program's.
+#![tactic(auto)]
 mod fronts;
 mod queues;
 

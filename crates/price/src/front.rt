@@ -10,7 +10,7 @@ use fills::left_at;
 use terms::{Place, Side};
 
 // How many orders, and what they have open in all.
-#[derive(Drop)]
+#[derive(Clone, Copy)]
 pub struct Front {
     pub count: usize,
     pub total: u64,

@@ -13,7 +13,7 @@ use crate::weigh::{Weighed, apart, executable, first, weigh};
 use terms::{Limit, Place, Side};
 
 // The highest executable quantity, and the price that the chain leaves.
-#[derive(Drop)]
+#[derive(Clone, Copy)]
 pub struct Found {
     pub most: u64,
     pub price: u32,

@@ -5,7 +5,7 @@ ghost use Rattle.price.specs.Search.{first_weighed, joined, weighed};
 
 // What the candidates so far come to: the highest executable quantity, the smallest difference among those that have it, and
 // of those that have both the highest, the lowest and the one nearest to the reference price.
-#[derive(Drop)]
+#[derive(Clone, Copy)]
 pub struct Weighed {
     pub most: u64,
     pub least: u64,

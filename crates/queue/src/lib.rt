@@ -1,4 +1,5 @@
 // The queue: who takes part, and at what rank (01 "Who takes part, and at what rank").
+#![tactic(auto)]
 mod listed;
 mod ranks;
 

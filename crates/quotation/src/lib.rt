@@ -1,4 +1,5 @@
 // Quote: the call that a market maker's two sides come in by. Its promise is one equation: everything that it returns and the session after it (A1).
+#![tactic(auto)]
 ghost use Rattle.std.specs.Prelude.{◌≡◌, ◌<◌};
 ghost use Rattle.terms.specs.Bounds.{places};
 ghost use Rattle.session.specs.Sound.{Sound};
@@ -10,7 +11,7 @@ use quotes::{Pair, quote_place, requote_words, requote8, requote16, requote32};
 use session::Session;
 use terms::{Place, QuoteEntry, Side};
 
-#[derive(Drop)]
+#[derive(Clone, Copy)]
 pub struct Quoted {
     pub answer: u8,
     pub bid: u32,

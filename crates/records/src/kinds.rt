@@ -10,7 +10,7 @@ use crate::numbers::{byte, eight, four, two};
 use terms::{Entry, OneStep, QuoteEntry, Row, SideEntry, Start, Table};
 
 // A record with whatever values its fields hold.
-#[derive(Drop)]
+#[derive(Clone, Copy)]
 pub enum Record {
     Start(OneStep),
     Order(Entry),
@@ -21,14 +21,14 @@ pub enum Record {
     Bands(Start),
 }
 
-#[derive(Drop)]
+#[derive(Clone, Copy)]
 pub struct Deletion {
     pub member: u16,
     pub number: u32,
 }
 
 // The kinds of record and their lengths.
-#[derive(Drop)]
+#[derive(Clone, Copy)]
 pub struct Kind;
 
 impl Kind {
@@ -83,7 +83,7 @@ impl Kind {
 }
 
 // Each field starts where the one before it ends.
-#[derive(Drop)]
+#[derive(Clone, Copy)]
 pub struct StartPart;
 
 impl StartPart {
@@ -100,7 +100,7 @@ impl StartPart {
     pub const END: usize = StartPart::MOST + 8;
 }
 
-#[derive(Drop)]
+#[derive(Clone, Copy)]
 pub struct OrderPart;
 
 impl OrderPart {
@@ -117,7 +117,7 @@ impl OrderPart {
     pub const END: usize = OrderPart::LIMIT + 4;
 }
 
-#[derive(Drop)]
+#[derive(Clone, Copy)]
 pub struct DeletePart;
 
 impl DeletePart {
@@ -128,7 +128,7 @@ impl DeletePart {
     pub const END: usize = DeletePart::MEMBER + 2;
 }
 
-#[derive(Drop)]
+#[derive(Clone, Copy)]
 pub struct AuctionPart;
 
 impl AuctionPart {
@@ -137,7 +137,7 @@ impl AuctionPart {
     pub const END: usize = AuctionPart::WHICH + 1;
 }
 
-#[derive(Drop)]
+#[derive(Clone, Copy)]
 pub struct QuotePart;
 
 impl QuotePart {
@@ -155,7 +155,7 @@ impl QuotePart {
 }
 
 // A start by bands (02 K6): row count and rows; the later fields' places are counted from behind the rows on.
-#[derive(Drop)]
+#[derive(Clone, Copy)]
 pub struct BandsPart;
 
 impl BandsPart {
@@ -282,7 +282,7 @@ fn bands_fields(part: &[u8]) -> Start
 }
 
 // What a whole header says: a record and the place behind it, a record that isn't whole, or no known kind with its length.
-#[derive(Drop)]
+#[derive(Clone, Copy)]
 pub(crate) enum Header {
     Record(Record, usize),
     Cut,

@@ -1,4 +1,5 @@
 // The session file: its records and what stands at a place of it (01 "Session file").
+#![tactic(auto)]
 mod kinds;
 mod numbers;
 mod ranges;
@@ -10,7 +11,7 @@ pub use ranges::in_range;
 pub use reader::{Reader, read_at};
 
 // What stands at a place of a file that may come in pieces: a record and the place behind it, a fault, or the end; `Waits` where it can't be told before more bytes, or the end, have come.
-#[derive(Drop)]
+#[derive(Clone, Copy)]
 pub enum Piece {
     Record(Record, usize),
     Waits,

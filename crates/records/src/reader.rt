@@ -5,7 +5,7 @@ ghost use Rattle.records.specs.Pieces.{piece_at};
 use crate::Piece;
 use crate::walk::piece_at;
 
-#[derive(Drop)]
+#[derive(Clone, Copy)]
 pub struct Reader<'a> {
     pub file: &'a [u8],
     pub place: usize,

@@ -1,4 +1,5 @@
 // Refusals: which number a call answers (01 "Refusals by number").
+#![tactic(auto)]
 mod checks;
 mod quote_checks;
 

@@ -1,4 +1,5 @@
 // The session program: runs a session file from standard input and prints what happened (01 "Session file").
+#![tactic(auto)]
 ghost use Rattle.std.specs.Prelude.{◌≡◌, ◌⊎◌, ◌+◌, ◌-◌, ◌≤◌, ◌<◌, ◌^◌, length, take, drop};
 ghost use Rattle.records.specs.Lengths.{length_bound};
 ghost use Rattle.transcript.specs.Steps.{record_room};
@@ -16,7 +17,7 @@ use transcript::Stop;
 const MOST_TURNS: u64 = 1_099_511_627_776;
 
 // Where a run stands: its session, the records answered, the bytes held, and why the last telling stopped.
-#[derive(Drop)]
+#[derive(Clone, Copy)]
 pub struct Run {
     pub session: Session,
     pub answered: u64,

@@ -7,7 +7,7 @@ use writer::{Written, write_record};
 
 // What the last record was answered, and the place behind what was written; the record at which the copy ended, counted from 1; and whether it
 // is a fault.
-#[derive(Drop)]
+#[derive(Clone, Copy)]
 pub struct Ending {
     pub written: Written,
     pub count: u64,

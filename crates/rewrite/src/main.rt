@@ -1,5 +1,6 @@
 // A session file read and written again, record by record, from standard input to standard output (01 "Session file"; K1): of a good file the
 // same bytes.
+#![tactic(auto)]
 mod copy;
 
 ghost use Rattle.std.specs.Prelude.{◌≤◌, length};

@@ -1,4 +1,5 @@
 // A session for one security: what it holds, and the fresh one. It goes into a call by value and comes back by value.
+#![tactic(auto)]
 ghost use Rattle.std.specs.Prelude.{◌≡◌};
 ghost use Rattle.session.specs.State.{fresh_session};
 
@@ -7,7 +8,7 @@ use controls::Phase;
 use terms::{Parameters, Place, Price};
 use trades::Trade;
 
-#[derive(Drop)]
+#[derive(Clone, Copy)]
 pub struct Session {
     pub phase: Phase,
     // The delay of the opening has been given.

@@ -1,4 +1,5 @@
 // Text gathered in a lent buffer from its front on and shown at once, not number by number. What puts bytes there answers the place behind them.
+#![tactic(auto)]
 ghost use Rattle.std.specs.Prelude.{◌≤◌, length};
 
 use libc::STDOUT_FILENO;

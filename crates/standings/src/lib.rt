@@ -1,4 +1,5 @@
 // The ranked queue and the filled front. The promise of each is one equation: everything that it returns and the lent list (A1).
+#![tactic(auto)]
 ghost use Rattle.std.specs.Prelude.{◌≡◌};
 ghost use Rattle.session.specs.Sound.{Sound};
 ghost use Rattle.standings.specs.Queues.{queue_leaves, queued, filled_front, front_answered};
@@ -6,7 +7,7 @@ ghost use Rattle.standings.specs.Queues.{queue_leaves, queued, filled_front, fro
 use session::Session;
 use terms::{Auction, AuctionMade, Place, Side, SideMade};
 
-#[derive(Drop)]
+#[derive(Clone, Copy)]
 pub struct Queued {
     pub answer: u8,
     pub count: u32,

@@ -1,5 +1,6 @@
 // The sums of 01 "Sums to check by hand" and its worked input, run through the session: what it answers, one line each, is held to
 // the file `stdout`, whose numbers are the paper's.
+#![tactic(auto)]
 ghost use Rattle.session.specs.Sound.{Sound};
 
 use calls::{AuctionAnswer, Session};

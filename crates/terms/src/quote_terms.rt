@@ -7,14 +7,14 @@ use crate::kinds::{Member, MemberMade, Price, PriceMade, Quantity, QuantityMade}
 use crate::orders::{Limit, Order, Side, Validity};
 
 // A side of a quote as it comes from outside: either field may hold any value.
-#[derive(Drop)]
+#[derive(Clone, Copy)]
 pub struct SideEntry {
     pub quantity: u32,
     pub limit: u32,
 }
 
 // A quote as it comes from outside.
-#[derive(Drop)]
+#[derive(Clone, Copy)]
 pub struct QuoteEntry {
     pub member: u16,
     pub bid: SideEntry,
@@ -22,13 +22,13 @@ pub struct QuoteEntry {
 }
 
 // A side with both fields in their range: its limit is a price.
-#[derive(Drop)]
+#[derive(Clone, Copy)]
 pub struct QuoteSide {
     pub quantity: Quantity,
     pub limit: Price,
 }
 
-#[derive(Drop)]
+#[derive(Clone, Copy)]
 pub enum QuoteSideMade {
     Good(QuoteSide),
     Refused,
@@ -49,14 +49,14 @@ impl QuoteSide {
 }
 
 // A quote with every field in its range.
-#[derive(Drop)]
+#[derive(Clone, Copy)]
 pub struct Quote {
     pub member: Member,
     pub bid: QuoteSide,
     pub ask: QuoteSide,
 }
 
-#[derive(Drop)]
+#[derive(Clone, Copy)]
 pub enum QuoteMade {
     Good(Quote),
     Refused,

@@ -5,7 +5,7 @@ ghost use Rattle.terms.specs.Tables.{one_row, no_row, row_follows, later_of, row
 use crate::kinds::{Price, Step};
 
 // Prices from the lowest on have this step, as far as the next row begins. From outside either number may hold any value.
-#[derive(Drop)]
+#[derive(Clone, Copy)]
 pub struct Row {
     pub lowest: u32,
     pub step: u32,
@@ -42,7 +42,7 @@ impl Row {
 }
 
 // Up to eight rows, of which so many are counted; the others are 0.
-#[derive(Drop)]
+#[derive(Clone, Copy)]
 pub struct Table {
     pub count: u16,
     pub first: Row,

@@ -1,11 +1,12 @@
 // Trades: the two sides' fills paired from the front, and how they stand in a lent list (01 "Outcomes").
+#![tactic(auto)]
 mod pairing;
 
 pub use pairing::pair;
 use terms::Place;
 
 // A trade at the auction price; buy and sell are the orders' numbers.
-#[derive(Drop)]
+#[derive(Clone, Copy)]
 pub struct Trade {
     pub buy: u32,
     pub sell: u32,

@@ -9,7 +9,7 @@ use crate::Trade;
 use terms::Place;
 
 // Where a queue is: the share at its front, and what is left of it.
-#[derive(Drop)]
+#[derive(Clone, Copy)]
 pub struct Front {
     pub at: usize,
     pub left: u32,

@@ -1,4 +1,5 @@
 // The writer of session files: one record at a place of a lent buffer, whole or not at all (01 "Session file"; K1).
+#![tactic(auto)]
 mod kinds;
 mod numbers;
 
@@ -9,7 +10,7 @@ use kinds::{length_of, put_record};
 use records::Record;
 
 // The refusal, or 0 and the place behind the record.
-#[derive(Drop)]
+#[derive(Clone, Copy)]
 pub struct Written {
     pub answer: u8,
     pub place: usize,
