@@ -18,7 +18,7 @@ use Rattle.records.specs.Bytes.{length_of, file_of, all_in_range}
 use Rattle.records.specs.Walk.{walk}
 use Rattle.records.specs.RoundTrip.{file-back, good-file-back}
 use Rattle.writer.specs.Writing.{WriteLeaves, write_checks, write_refused, write_done, written, written_all}
-use Rattle.writer.specs.InARow.{written_in_a_row}
+use Rattle.writer.proofs.InARow.{written_in_a_row}
 use Rattle.demands.specs.Answers.{ExactlyWhen, exactly, start-exactly, order-exactly, delete-exactly, auction-exactly, quote-exactly}
 
 -- the file that a buffer holds from its front to the place reached

@@ -1,6 +1,7 @@
 // What an order, a deletion and a quote change, found from the parts of a session that decide it: a refusal, or a change that whoever holds a session
 // stores in it.
 #![tactic(auto)]
+
 mod quoting;
 
 ghost use Rattle.std.specs.Prelude.{◌≡◌};

@@ -1,6 +1,7 @@
 // Start, order and delete: the calls that a session's entries come in by, quotes apart. The promise of each is one equation: everything that it returns and the
 // session after it (A1).
 #![tactic(auto)]
+
 mod changes;
 
 ghost use Rattle.std.specs.Prelude.{◌≡◌};

@@ -101,6 +101,7 @@ fill-passes f (suc q) (o ∷ os) (first, c) h x m = go (f o) refl h first (λ k 
 
 -- What is filled, added up by the numbers of a book that has each of them once.
 pick-number : (f : Resting → Bool) (w : ℕ) {o : Resting} (book : List Resting) → Distinct book → o ∈ book → sum (λ x. counted (f x) (counted (eqb o.number x.number) w)) book ≡ counted (f o) w
+pick-number f w {o = o} [] _ x3 = elim x3 [ ]
 pick-number f w {o} (y ∷ ys) (others, d) (Memᴰ.head e) = omega (arith, here, sum-none (λ x. counted (f x) (counted (eqb o.number x.number) w)) ys later)
   where
     here : counted (f y) (counted (eqb o.number y.number) w) ≡ counted (f o) w
@@ -152,6 +153,7 @@ fill-rest f (suc q) o os h = omega arith
 -- In rank order: where an order gets anything, every better ranked one is full.
 pub fill-in-order : (s : Side) {a b : Resting} (q : ℕ) (os : List Resting) → Ranked (ahead s) os → Distinct os → a ∈ os → b ∈ os → T (ahead s a b)
     → 0 < filled_by (has_number b.number) (fill q os) → a.left ≤ filled_by (has_number a.number) (fill q os)
+fill-in-order s {a = a} {b = b} q [] r d x6 _ h k = elim x6 [ ]
 fill-in-order s {a} {b} q (o ∷ os) r d (Memᴰ.head e) (Memᴰ.head f) h k = absurd (ahead-irrefl s o (subst₂ (λ (x y : Resting). T (ahead s x y)) e f h))
 fill-in-order s {a} {b} q (o ∷ os) r (others, d) (Memᴰ.head e) (Memᴰ.tail n) h k =
     rw e (fill-first q o os (fill-past b.number q o os (λ i. others b n (sym i)) k).0)

@@ -1,6 +1,7 @@
 // The theoretical answer: what the auction would answer at this moment, with no change (01 "Outcomes"). Its promise is one equation: everything that it
 // returns (A1).
 #![tactic(auto)]
+
 ghost use Rattle.std.specs.Prelude.{◌≡◌};
 ghost use Rattle.courses.specs.Answer.{answer_of};
 ghost use Rattle.answers.specs.Auctions.{outcome_of};

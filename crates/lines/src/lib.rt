@@ -1,5 +1,6 @@
 // The text of an answer, as the session program prints it (01 "Session file"; 02 K2).
 #![tactic(auto)]
+
 ghost use Rattle.std.specs.Prelude.{◌≡◌};
 ghost use Rattle.lines.specs.Line.{numbered_line};
 

@@ -1,5 +1,6 @@
 // Who owes whom, in lines: one for each cell of the square that is not 0, by rows and then by columns, and the total (02 K5).
 #![tactic(auto)]
+
 ghost use Rattle.std.specs.Prelude.{◌+◌, ◌*◌, ◌≤◌, length};
 ghost use Rattle.lists.specs.Put.{Wrote};
 ghost use Rattle.squares.specs.Square.{square_members, square_cells};

@@ -1,5 +1,6 @@
 // Places: which of the book's 512 are taken, as the bits of eight words (01 "Numbers and their bounds").
 #![tactic(auto)]
+
 mod words;
 
 pub use words::{

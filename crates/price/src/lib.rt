@@ -1,5 +1,6 @@
 // The price: interest of a side at a price, executable quantity, candidates and the chain (01 "The price").
 #![tactic(auto)]
+
 mod front;
 mod search;
 mod weigh;

@@ -13,6 +13,7 @@ Distinct (o ∷ os) = ((x : Resting) → x ∈ os → x.number ≢ o.number) × 
 
 -- two orders with one number are one order
 pub distinct-one : {a b : Resting} (os : List Resting) → Distinct os → a ∈ os → b ∈ os → a.number ≡ b.number → a ≡ b
+distinct-one [] d m _ i = elim m [ ]
 distinct-one (o ∷ os) d (Memᴰ.head e) (Memᴰ.head f) i = e ∙ sym f
 distinct-one (o ∷ os) (others, d) (Memᴰ.head e) (Memᴰ.tail m) i = absurd (others _ m (cc))
 distinct-one (o ∷ os) (others, d) (Memᴰ.tail m) (Memᴰ.head f) i = absurd (others _ m (cc))

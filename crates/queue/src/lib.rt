@@ -1,5 +1,6 @@
 // The queue: who takes part, and at what rank (01 "Who takes part, and at what rank").
 #![tactic(auto)]
+
 mod listed;
 mod ranks;
 

@@ -1,5 +1,6 @@
 // Quote: the call that a market maker's two sides come in by. Its promise is one equation: everything that it returns and the session after it (A1).
 #![tactic(auto)]
+
 ghost use Rattle.std.specs.Prelude.{◌≡◌, ◌<◌};
 ghost use Rattle.terms.specs.Bounds.{places};
 ghost use Rattle.session.specs.Sound.{Sound};

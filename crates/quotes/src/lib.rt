@@ -1,5 +1,6 @@
 // Quotes in the book: where the sides of a member's quote stand, and the columns with another quote in its stead (02 K2).
 #![tactic(auto)]
+
 mod hints;
 mod sides;
 

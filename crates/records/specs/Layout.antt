@@ -49,6 +49,8 @@ fields-moved (w ∷ ws) k part place =
 -- the numbers whose bytes stand in front are read back
 pub fields_back : (ws ns rest : List ℕ) → Fit ws ns → fields_of ws (bytes_of ws ns ++ rest) ≡ ns
 fields_back [] [] rest h = refl
+fields_back [] (n ∷ ns) rest h = elim h [ ]
+fields_back (w ∷ ws) [] rest h = elim h [ ]
 fields_back (w ∷ ws) (n ∷ ns) rest (small, h) =
     rw (append_assoc (number_bytes w n) (bytes_of ws ns) rest, number_read w n behind small, ← place, ← fields-moved ws w (number_bytes w n ++ behind) 0)
     (rw (drop_at (number_bytes w n) behind w (bytes-length w n)) (ap (λ (l : List ℕ). n ∷ l) (fields_back ws ns rest h)))

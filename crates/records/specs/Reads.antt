@@ -3,7 +3,6 @@ use Rattle.std.specs.Prelude.{ℕ, ◌+◌, ◌≤◌, ◌<◌, true, false, not
 use Rattle.std.proofs.Common.{le-leb, lt-ltb, le-ltb, ltb-false}
 use Rattle.std.proofs.lemmas.Bool.{lt-leb, not-false}
 use Rattle.lists.specs.Tests.{neither}
-use Rattle.records.specs.declared.{kinds.Record.Record}
 use Rattle.records.specs.Fields.{header_length, record_of}
 use Rattle.records.specs.Lengths.{length_above}
 use Rattle.records.specs.Walk.{Read, length_at, kind_at, part_at, is_header, is_cut, is_faulty, record_at}

@@ -8,7 +8,7 @@ use Rattle.terms.specs.Kinds.{within, is_price, is_step}
 use Rattle.terms.specs.Tables.{all_rows, is_row, no_row, is_no_row, is_table}
 use Rattle.terms.specs.TableLaws.{table-parts}
 use Rattle.terms.specs.declared.parameters.{Start.Start}
-use Rattle.terms.specs.declared.tables.{Row.Row, Table.Table}
+use Rattle.terms.specs.declared.tables.{Row.Row}
 use Rattle.records.specs.declared.{kinds.Record.Record}
 use Rattle.records.specs.Fields.{number, row_widths, fields_from, bands_by}
 use Rattle.records.specs.Bytes.{row_numbers, numbers_of}

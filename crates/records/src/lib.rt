@@ -1,5 +1,6 @@
 // The session file: its records and what stands at a place of it (01 "Session file").
 #![tactic(auto)]
+
 mod kinds;
 mod numbers;
 mod ranges;

@@ -1,5 +1,6 @@
 // Refusals: which number a call answers (01 "Refusals by number").
 #![tactic(auto)]
+
 mod checks;
 mod quote_checks;
 

@@ -10,7 +10,7 @@ use Rattle.records.specs.Pieces.{piece_of, piece_at}
 use Rattle.records.specs.Ends.{next_place, reads-suffice}
 use Rattle.writer.specs.declared.{Written.Written}
 use Rattle.writer.specs.Writing.{WriteLeaves, write_leaves, written, written_all}
-use Rattle.writer.specs.InARow.{good-file-written, written-within, all-go-on, all-stop}
+use Rattle.writer.proofs.InARow.{good-file-written, written-within, all-go-on, all-stop}
 use Rattle.rewrite.specs.declared.{copy.Ending.Ending}
 
 -- what a file's records leave of the buffer, written from its front on; and whether the file is faulty, where none of them was refused

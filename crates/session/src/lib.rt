@@ -1,5 +1,6 @@
 // A session for one security: what it holds, and the fresh one. It goes into a call by value and comes back by value.
 #![tactic(auto)]
+
 ghost use Rattle.std.specs.Prelude.{◌≡◌};
 ghost use Rattle.session.specs.State.{fresh_session};
 

@@ -1,16 +1,16 @@
 -- Trades paired by places: under the orders' numbers they are the trades, and each side stands at a rank's place.
-use Rattle.std.specs.Prelude.{ℕ, zero, suc, ◌+◌, ◌<◌, min, Bool, true, false, cond, ◌≡◌, refl, List, [], ◌∷◌, ◌++◌, map, leb, length, get_or}
+use Rattle.std.specs.Prelude.{ℕ, zero, suc, min, Bool, true, false, cond, ◌≡◌, refl, List, [], ◌∷◌, map, leb, get_or}
 use Rattle.std.proofs.Common.{⊎_elim, sym, ap, subst, ◌∙◌, arith}
 use mathlib.Core.List.Memᴰ
 use Rattle.std.proofs.lemmas.Simd.{map-map}
-use Rattle.lists.specs.Sums.{◌∈◌, sum, sum-map}
+use Rattle.lists.specs.Sums.{◌∈◌, sum-map}
 use Rattle.terms.specs.Bounds.{places}
 use Rattle.queue.specs.RankNumbers.{place_of_rank, along}
 use Rattle.trades.specs.declared.{Trade.Trade}
 use Rattle.trades.specs.Trades.{volume}
 use Rattle.trades.specs.OverShares.{shares_left, numbers_left, share_pairs}
 use Rattle.squares.specs.Square.{cell_of, added_at, added_to}
-use Rattle.squares.specs.Naming.{named, places_to, place_column, place_at}
+use Rattle.squares.specs.Naming.{named, place_column, place_at}
 
 -- ---- under other names
 names-left : (f : ℕ → ℕ) (q x n : ℕ) (ns : List ℕ) → numbers_left q x (f n) (map f ns) ≡ map f (numbers_left q x n ns)

@@ -1,6 +1,6 @@
 -- The square (02 K5): a row for each buying member and a column for each selling one, members in the order of their first accepted entry.
-use Rattle.std.specs.Prelude.{ℕ, zero, suc, ◌+◌, ◌*◌, ◌<◌, ◌≤◌, Bool, true, false, cond, ◌≢◌, ◌≡◌, refl, List, [], ◌∷◌, ◌++◌, eqb, length, get_or, set, take, drop}
-use Rattle.std.proofs.Common.{sym, ap, ◌∙◌, arith, eq-eqb, ne_eqb, length-set, length-append, length-drop, drop_of_length-le, length-take-le, drop-cons, get_or-take, get_or-drop}
+use Rattle.std.specs.Prelude.{ℕ, zero, suc, ◌+◌, ◌*◌, ◌<◌, ◌≤◌, cond, ◌≢◌, ◌≡◌, refl, List, [], ◌∷◌, ◌++◌, eqb, length, get_or, set, take, drop}
+use Rattle.std.proofs.Common.{sym, ◌∙◌, arith, eq-eqb, ne_eqb, length-set, length-append, length-drop, drop_of_length-le, length-take-le, drop-cons, get_or-take, get_or-drop}
 use Rattle.std.proofs.lemmas.List.{set_at}
 use Rattle.std.proofs.Math.Seq.{append_snoc}
 use Rattle.lists.specs.Choice.{any}

@@ -1,6 +1,7 @@
 // The square: for each buying and each selling member what was traded since start (02 K5). Its cells lie row after row in one list, which is handed out as
 // rows.
 #![tactic(auto)]
+
 ghost use Rattle.std.specs.Prelude.{◌≡◌, List, ℕ, ◌+◌, ◌*◌, ◌<◌, ◌≤◌, ◌^◌, length, get_or, take};
 ghost use Rattle.terms.specs.Bounds.{places};
 ghost use Rattle.trades.specs.Trades.{volume};

@@ -1,5 +1,6 @@
 // The ranked queue and the filled front. The promise of each is one equation: everything that it returns and the lent list (A1).
 #![tactic(auto)]
+
 ghost use Rattle.std.specs.Prelude.{◌≡◌};
 ghost use Rattle.session.specs.Sound.{Sound};
 ghost use Rattle.standings.specs.Queues.{queue_leaves, queued, filled_front, front_answered};

@@ -1,5 +1,6 @@
 // The telling as a whole: the records of the bytes at hand, and behind them the last lines where the walk ended (01 "Session file").
 #![tactic(auto)]
+
 ghost use Rattle.std.specs.Prelude.{true, ◌≡◌, ◌+◌, ◌≤◌, ◌<◌, ◌^◌, length};
 ghost use Rattle.session.specs.State.{fresh_session};
 ghost use Rattle.session.specs.Sound.{Sound};

@@ -1,5 +1,6 @@
 // Text: bytes, words and numbers in decimal, each written into a lent buffer from a place on; the place behind it (01 "Session file").
 #![tactic(auto)]
+
 ghost use Rattle.std.specs.Prelude.{◌≡◌, ◌∷◌, [], ◌+◌, ◌≤◌, ◌<◌, length};
 ghost use Rattle.text.specs.Text.{most_digits, decimal, digit, pair, space, numeral_room};
 ghost use Rattle.lists.specs.Put.{Wrote};

@@ -1,5 +1,6 @@
 // Trades: the two sides' fills paired from the front, and how they stand in a lent list (01 "Outcomes").
 #![tactic(auto)]
+
 mod pairing;
 
 pub use pairing::pair;

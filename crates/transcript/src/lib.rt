@@ -1,5 +1,6 @@
 // The transcript: a session file's records run one by one, and what is printed of them (01 "Session file").
 #![tactic(auto)]
+
 mod steps;
 mod tell;
 

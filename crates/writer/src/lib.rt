@@ -1,5 +1,6 @@
 // The writer of session files: one record at a place of a lent buffer, whole or not at all (01 "Session file"; K1).
 #![tactic(auto)]
+
 mod kinds;
 mod numbers;
 

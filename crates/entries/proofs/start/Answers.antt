@@ -1,0 +1,17 @@
+use mathlib.Core.Path.{◌≡◌, sym, ◌∙◌}
+use borrow.Author.Rules.{rules}
+use Rattle.terms.specs.Made.{parameters-good, parameters-refused}
+use Rattle.entries.specs.StartCall.{start-out-of-range, start-again, start-begun}
+use Rattle.entries.proofs.start.Goals as goal
+
+pub returns-in_default : goal.returns-in_default
+returns-in_default c = let a = c.args in
+    start-out-of-range a.session a.start (parameters-refused a.start (sym c.in_default.is ∙ c.new.ensures))
+
+pub returns-then-has_started : goal.returns-then-has_started
+returns-then-has_started c = let a = c.args in
+    start-again a.session a.start (parameters-good a.start (sym c.in-Good.is ∙ c.new.ensures)) (sym c.has_started.ensures ∙ c.if-has_started.true)
+
+pub returns : goal.returns
+returns c = let a = c.args in
+    start-begun a.session a.start (parameters-good a.start (sym c.in-Good.is ∙ c.new.ensures)) (sym c.has_started.ensures ∙ c.if-has_started.false)

@@ -1,0 +1,6 @@
+use borrow.Author.Rules.{rules}
+use Rattle.places.specs.Words.{bit-shift}
+use Rattle.places.proofs.words.bit_of.Goals as goal
+
+pub returns : goal.returns
+returns c = bit-shift _ _
