@@ -3,6 +3,5 @@
 -- the paper
 pub mod Auctions
 -- its laws
-pub mod SoundAfter
 -- as the code computes it
 pub mod AuctionCalls

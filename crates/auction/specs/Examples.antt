@@ -16,88 +16,23 @@ use Rattle.trades.specs.TradesOf.{fills, trades_of}
 use Rattle.auction.specs.Outcome.{Held, unheld, non_opening, outcome, trades}
 use Rattle.auction.specs.After.{rest_of}
 
-unfoldable computing : Unit {0}
+unfoldable pub computing : Unit {0}
 unfolding apart interest most_executable auction_price ranked fills trades_of traded non_opening outcome rest_of
 computing = tt
 
 -- threshold 150, reference 100,000
-abbrev outcome_on : Held → List Resting → Outcome
+abbrev pub outcome_on : Held → List Resting → Outcome
 outcome_on held book = outcome held 150 100_000 book
 
-abbrev held_by_both : Held
+abbrev pub held_by_both : Held
 held_by_both = record { preventable = true; delayable = true }
 
-abbrev held_by_unlimited : Held
+abbrev pub held_by_unlimited : Held
 held_by_unlimited = record { preventable = true; delayable = false }
 
--- an unlimited order that stays unfilled prevents an auction, unless nothing may hold it back
-prevents : outcome_on held_by_both (buy_any 1 50 ∷ sell 2 30 100_200 ∷ []) ≡ NonOpening
-unfolding computing
-prevents = refl
-
-closes : outcome_on unheld (buy_any 1 50 ∷ sell 2 30 100_200 ∷ []) ≡ Traded 100_200 30
-unfolding computing
-closes = refl
-
--- a price that reaches the threshold delays an auction that may be delayed; one step nearer it doesn't
-delayed-once : outcome_on held_by_both (buy 1 10 101_500 ∷ sell 2 10 101_500 ∷ []) ≡ Delayed 101_500 10
-unfolding computing
-delayed-once = refl
-
-then-opened : outcome_on held_by_unlimited (buy 1 10 101_500 ∷ sell 2 10 101_500 ∷ []) ≡ Traded 101_500 10
-unfolding computing
-then-opened = refl
-
-not-delayed : outcome_on held_by_both (buy 1 10 101_400 ∷ sell 2 10 101_400 ∷ []) ≡ Traded 101_400 10
-unfolding computing
-not-delayed = refl
-
--- Non Opening answers before Delayed Opening
-prevents-first : outcome_on held_by_both (buy_any 1 50 ∷ sell 2 30 101_500 ∷ []) ≡ NonOpening
-unfolding computing
-prevents-first = refl
-
-nothing : outcome_on held_by_both [] ≡ NoTrade
-unfolding computing
-nothing = refl
-
 -- the trades of the worked file: order 2 has the better limit, then order 1 the lower number
-abbrev worked_book : List Resting
+abbrev pub worked_book : List Resting
 worked_book = buy 1 50 100_200 ∷ buy 2 50 100_400 ∷ buy 3 50 100_200 ∷ sell 4 80 100_200 ∷ []
 
-abbrev trade : ℕ → ℕ → ℕ → Trade
+abbrev pub trade : ℕ → ℕ → ℕ → Trade
 trade b s q = record { buy = b; sell = s; quantity = q }
-
-worked-outcome : outcome_on held_by_both worked_book ≡ Traded 100_200 80
-unfolding computing
-worked-outcome = refl
-
-worked-trades : trades (Traded 100_200 80) worked_book ≡ trade 2 4 50 ∷ trade 1 4 30 ∷ []
-unfolding computing
-worked-trades = refl
-
--- what is left of order 1 rests; order 2 is filled and gone
-rests : rest_of Opening (trade 2 4 50 ∷ trade 1 4 30 ∷ []) (buy 1 50 100_200) ≡ some (buy 1 20 100_200)
-unfolding computing
-rests = refl
-
-gone : rest_of Opening (trade 2 4 50 ∷ trade 1 4 30 ∷ []) (buy 2 50 100_400) ≡ none
-unfolding computing
-gone = refl
-
--- after opening validity 1 goes; after closing only validity 4 stays
-opening-ends : rest_of Opening [] (order 1 Buy AtOpening 5 (at_price 100)) ≡ none
-unfolding computing
-opening-ends = refl
-
-opening-keeps : rest_of Opening [] (order 1 Buy AtClose 5 (at_price 100)) ≡ some (order 1 Buy AtClose 5 (at_price 100))
-unfolding computing
-opening-keeps = refl
-
-closing-ends : rest_of Closing [] (order 1 Buy Day 5 (at_price 100)) ≡ none
-unfolding computing
-closing-ends = refl
-
-closing-keeps : rest_of Closing [] (order 1 Buy LaterDay 5 (at_price 100)) ≡ some (order 1 Buy LaterDay 5 (at_price 100))
-unfolding computing
-closing-keeps = refl

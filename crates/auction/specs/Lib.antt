@@ -5,12 +5,8 @@ pub mod Outcome
 pub mod After
 pub mod Examples
 -- its laws
-pub mod Left
 pub mod NonOpening
 -- as the code computes it
 pub mod Decided
 pub mod Ended
 pub mod Trading
-pub mod Composed
-pub mod TradesIn
-pub mod OutcomeIn

@@ -7,7 +7,7 @@ use Rattle.terms.specs.Bounds.{places}
 use Rattle.terms.specs.declared.orders.{Side.Side, Side.TheVariants.Buy, Side.TheVariants.Sell, Auction.Auction}
 use Rattle.book.specs.declared.Book.{Book}
 use Rattle.queue.specs.RankNumbers.{ranks_from, along}
-use Rattle.queue.specs.Placing.{ranks-length}
+use Rattle.queue.proofs.Placing.{ranks-length}
 use Rattle.fills.specs.Shares.{shares_of, lessened}
 use Rattle.price.specs.Search.{offered, searched_in}
 use Rattle.trades.specs.declared.{Trade.Trade}
@@ -47,15 +47,3 @@ left_in quantity lefts buys sells = lessened sells (shares_in quantity lefts sel
 
 abbrev pub rests_in : Auction → ℕ → List ℕ → List ℕ → List ℕ → List ℕ → List ℕ
 rests_in a quantity validities lefts buys sells = ended a validities (left_in quantity lefts buys sells)
-
--- there are no more ranks than places, and they ascend
-module _ (a : Auction) (sides validities limits numbers : List ℕ) (s : Side) where
-  pub ranks-few : length (ranks_in a sides validities limits numbers s) ≤ places
-  ranks-few = ranks-length s a sides validities limits numbers
-
-  pub ranks-ascend : Ranked leb (ranks_in a sides validities limits numbers s)
-  ranks-ascend = numbers-ranked (ranks_from s a sides validities limits numbers 0 places)
-
--- of one list with the ranks of both sides, the part behind the first ones
-pub asks-part : (bids asks : ℕ) (both : List ℕ) → take (bids + asks - bids) (drop bids both) ≡ take asks (drop bids both)
-asks-part bids asks both = let e : bids + asks - bids ≡ asks = omega arith in rw e

@@ -14,8 +14,8 @@ use Rattle.terms.specs.declared.orders.{Side.Side, Side.TheVariants.Buy, Side.Th
 use Rattle.terms.specs.declared.quote_terms.{QuoteEntry.QuoteEntry}
 use Rattle.book.specs.Resting.{resting}
 use Rattle.book.specs.ByPlace.{resting-elim}
-use Rattle.queue.specs.Part.{taking_part-elim}
-use Rattle.queue.specs.Reach.{resting-distinct}
+use Rattle.queue.proofs.Part.{taking_part-elim}
+use Rattle.queue.proofs.Reach.{resting-distinct}
 use Rattle.trades.specs.declared.{Trade.Trade}
 use Rattle.trades.specs.Trades.{party, volume}
 use Rattle.trades.specs.Written.{trades_written}

@@ -22,18 +22,23 @@ use Rattle.book.specs.Resting.{resting, changed}
 use Rattle.book.specs.ByPlace.{resting-intro}
 use Rattle.book.specs.Sound.{SoundBook}
 use Rattle.book.specs.Changed.{AfterAt, changed-at, changed-resting}
-use Rattle.queue.specs.Part.{takes_part, taking_part, taking_part-elim, taking_part-intro}
-use Rattle.queue.specs.Distinct.{Distinct, distinct-one}
+use Rattle.queue.specs.Part.{takes_part, taking_part}
+use Rattle.queue.proofs.Part.{taking_part-elim, taking_part-intro}
+use Rattle.queue.specs.Distinct.{Distinct}
+use Rattle.queue.proofs.Distinct.{distinct-one}
 use Rattle.queue.specs.Rank.{ahead, on_side}
 use Rattle.price.specs.Interest.{accepts, interest, executable}
 use Rattle.trades.specs.declared.{Trade.Trade}
 use Rattle.auction.specs.declared.{Outcome.Outcome, Outcome.TheVariants.Traded, Outcome.TheVariants.NoTrade, Outcome.TheVariants.NonOpening, Outcome.TheVariants.Delayed}
 use Rattle.trades.specs.Trades.{party, traded, volume, TradeList}
 use Rattle.trades.specs.Pairing.{amount, paired}
-use Rattle.trades.specs.TradesOf.{fills, trades_of, trades-none}
+use Rattle.trades.specs.TradesOf.{fills, trades_of}
+use Rattle.trades.proofs.TradesOf.{trades-none}
 use Rattle.auction.specs.Outcome.{trades, outcome_number, price_answered, quantity_answered, takes_place}
-use Rattle.auction.specs.After.{remaining, ends, leaves, rest_of, rest-keeps}
-use Rattle.trades.specs.Written.{quadruples, quadruples-length, trades_read, trades-back}
+use Rattle.auction.specs.After.{remaining, ends, leaves, rest_of}
+use Rattle.auction.proofs.AfterLaws.{rest-keeps}
+use Rattle.trades.specs.Written.{quadruples, trades_read}
+use Rattle.trades.proofs.Written.{quadruples-length, trades-back}
 use Rattle.session.specs.declared.{Session.Session}
 use Rattle.session.specs.Sound.{legal_price, Sound}
 use Rattle.answers.specs.Auctions.{AuctionLeaves, held_by, outcome_of, trades_now, session_after, auction_done, auctioned}

@@ -6,9 +6,11 @@ use Rattle.lists.specs.Tests.{and_both}
 use Rattle.terms.specs.Bounds.{min_price}
 use Rattle.terms.specs.Kinds.{is_price, is_step, is_multiple, is_factor, is_threshold, is_order_value}
 use Rattle.terms.specs.Tables.{rows, is_table, row_of, on_step, one_row}
-use Rattle.terms.specs.TableLaws.{LastIn, last-is-one, row-found, rows-counted, one-row-table, one-row-step}
+use Rattle.terms.specs.TableLaws.{LastIn}
+use Rattle.terms.proofs.TableLaws.{last-is-one, row-found, rows-counted, one-row-table, one-row-step}
 use Rattle.terms.specs.Parameters.{parameters_from, start_with, is_start}
-use Rattle.terms.specs.Made.{ParametersHold, parameters-hold, hold-together}
+use Rattle.terms.specs.Made.{ParametersHold}
+use Rattle.terms.proofs.Made.{parameters-hold, hold-together}
 use Rattle.terms.specs.declared.kinds.{Price.Price}
 use Rattle.terms.specs.declared.orders.{Limit.TheVariants.At}
 use Rattle.terms.specs.declared.parameters.{Start.Start, OneStep.OneStep}

@@ -4,7 +4,7 @@ use Rattle.std.proofs.Common.{sym, ap, ◌∙◌, eqb→eq}
 use Rattle.lists.specs.Tests.{and_both}
 use Rattle.lists.specs.Sums.{◌∈◌, counted}
 use Rattle.terms.specs.Bounds.{places}
-use Rattle.terms.specs.Made.{fields-hold, side-number, validity-number, limit-number}
+use Rattle.terms.proofs.Made.{fields-hold, side-number, validity-number, limit-number}
 use Rattle.terms.specs.Orders.{Resting, side_number, validity_number, limit_number}
 use Rattle.terms.specs.declared.orders.{Entry.Entry}
 use Rattle.places.specs.Places.{is_taken, lowest_free, count_taken, total}

@@ -2,10 +2,11 @@
 use Rattle.std.specs.Prelude.{ℕ, Bool, true, false, not, ◌||◌, ◌≡◌, refl, List, T, ltb, length}
 use Rattle.std.proofs.Common.{true≢false, sym, ◌∙◌}
 use Rattle.terms.specs.Bounds.{places}
-use Rattle.terms.specs.Made.{side-number}
+use Rattle.terms.proofs.Made.{side-number}
 use Rattle.terms.specs.Orders.{is_side, side_from, side_number}
 use Rattle.terms.specs.declared.orders.{Side.Side}
-use Rattle.fills.specs.Front.{LongestFront, front-longest}
+use Rattle.fills.specs.Front.{LongestFront}
+use Rattle.fills.proofs.FrontLaws.{front-longest}
 use Rattle.refusals.specs.Checks.{first_hit, answered-done}
 use Rattle.refusals.specs.Exactly.{clear}
 use Rattle.standings.specs.Queues.{front_checks, front_refused, front_done, list_of, filled_front}

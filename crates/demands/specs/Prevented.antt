@@ -4,11 +4,12 @@ use Rattle.std.proofs.Common.{inl, inr}
 use Rattle.terms.specs.Orders.{auction_number}
 use Rattle.terms.specs.declared.orders.{Auction.TheVariants.Opening, Auction.TheVariants.Closing}
 use Rattle.book.specs.Resting.{resting}
-use Rattle.queue.specs.Part.{taking_part-elim, taking_part-distinct}
-use Rattle.queue.specs.Reach.{resting-sound}
+use Rattle.queue.proofs.Part.{taking_part-elim, taking_part-distinct}
+use Rattle.queue.proofs.Reach.{resting-sound}
 use Rattle.auction.specs.declared.{Outcome.Outcome, Outcome.TheVariants.Traded, Outcome.TheVariants.NoTrade, Outcome.TheVariants.NonOpening, Outcome.TheVariants.Delayed}
 use Rattle.auction.specs.Outcome.{outcome, outcome_number, takes_place}
-use Rattle.auction.specs.NonOpening.{Fillable, FillableAt, non-opening-exactly, fillable-legally}
+use Rattle.auction.specs.NonOpening.{Fillable, FillableAt}
+use Rattle.auction.proofs.NonOpening.{non-opening-exactly, fillable-legally}
 use Rattle.session.specs.declared.{Session.Session}
 use Rattle.session.specs.Sound.{legal_price, Sound}
 use Rattle.session.specs.State.{part}

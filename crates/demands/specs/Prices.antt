@@ -5,11 +5,14 @@ use Rattle.lists.specs.Sums.{◌∈◌, apart}
 use Rattle.lists.specs.Choice.{smallest}
 use Rattle.terms.specs.Orders.{Resting, is_legal}
 use Rattle.terms.specs.declared.orders.{Auction.Auction}
-use Rattle.queue.specs.Part.{taking_part, taking_part-elim}
+use Rattle.queue.specs.Part.{taking_part}
+use Rattle.queue.proofs.Part.{taking_part-elim}
 use Rattle.price.specs.Interest.{executable}
-use Rattle.price.specs.Candidates.{most_executable, candidates-suffice}
-use Rattle.price.specs.Chain.{kept, auction_price, nearest-one}
-use Rattle.price.specs.Legal.{price-legal}
+use Rattle.price.specs.Candidates.{most_executable}
+use Rattle.price.proofs.Candidates.{candidates-suffice}
+use Rattle.price.specs.Chain.{kept, auction_price}
+use Rattle.price.proofs.Chain.{nearest-one}
+use Rattle.price.proofs.Legal.{price-legal}
 
 -- B5.
 pub no-price-executes-more : (a : Auction) (reference : ℕ) (resting : List Resting) (p : ℕ) → executable (taking_part a resting) p ≤ most_executable reference (taking_part a resting)

@@ -9,9 +9,11 @@ use Rattle.terms.specs.Bounds.{places}
 use Rattle.terms.specs.Orders.{Resting, auction_number, auction_from, side_number, side_from}
 use Rattle.terms.specs.declared.orders.{Side.Side, Side.TheVariants.Buy, Side.TheVariants.Sell, Auction.Auction}
 use Rattle.book.specs.Resting.{resting}
-use Rattle.queue.specs.Part.{takes_part, taking_part, taking_part-distinct, taking_part-elim, taking_part-intro, taking_part-length}
+use Rattle.queue.specs.Part.{takes_part, taking_part}
+use Rattle.queue.proofs.Part.{taking_part-distinct, taking_part-elim, taking_part-intro, taking_part-length}
 use Rattle.queue.specs.Distinct.{Distinct}
-use Rattle.queue.specs.Rank.{ahead, on_side, ranked, ahead-irrefl, ahead-trans, ahead-total, ranked-in-order, ranked-elim, ranked-intro, ranked-sum, ranked-same}
+use Rattle.queue.specs.Rank.{ahead, on_side, ranked}
+use Rattle.queue.proofs.Rank.{ahead-irrefl, ahead-trans, ahead-total, ranked-in-order, ranked-elim, ranked-intro, ranked-sum, ranked-same}
 use Rattle.session.specs.declared.{Session.Session}
 use Rattle.refusals.specs.Checks.{first_hit, answered-done}
 use Rattle.refusals.specs.Exactly.{clear}

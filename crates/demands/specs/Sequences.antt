@@ -26,7 +26,7 @@ use Rattle.entries.specs.Entry.{start_checks, start_refused, start_done, started
 use Rattle.quotation.specs.Quote.{quote_checks, quote_refused, quote_done, quoted}
 use Rattle.answers.specs.Auctions.{AuctionLeaves, outcome_of, session_after, auction_checks, auction_refused, auction_done, auctioned}
 use Rattle.session.specs.State.{part}
-use Rattle.answers.specs.SoundAfter.{auctioned-sound}
+use Rattle.answers.proofs.SoundAfter.{auctioned-sound}
 use Rattle.session.specs.Sound.{Sound, fresh-sound}
 use Rattle.entries.specs.SoundAfter.{started-sound, entered-sound, deleted-sound}
 use Rattle.quotation.specs.QuoteSound.{quoted-sound}

@@ -10,22 +10,28 @@ use Rattle.book.specs.ByPlace.{resting-length}
 use Rattle.session.specs.declared.{Session.Session}
 use Rattle.session.specs.Sound.{legal_price, Sound}
 use Rattle.answers.specs.Auctions.{held_by}
-use Rattle.queue.specs.Reach.{resting-distinct, resting-live}
-use Rattle.queue.specs.Part.{taking_part, taking_part-distinct, taking_part-elim, taking_part-length}
+use Rattle.queue.proofs.Reach.{resting-distinct, resting-live}
+use Rattle.queue.specs.Part.{taking_part}
+use Rattle.queue.proofs.Part.{taking_part-distinct, taking_part-elim, taking_part-length}
 use Rattle.queue.specs.Distinct.{Distinct}
 use Rattle.queue.specs.Rank.{ahead, on_side}
-use Rattle.price.specs.Interest.{interest, executable, executable-within}
+use Rattle.price.specs.Interest.{interest, executable}
+use Rattle.price.proofs.Interest.{executable-within}
 use Rattle.price.specs.Candidates.{most_executable}
-use Rattle.price.specs.Chain.{price-best, price-none, price-most, no-price-most}
+use Rattle.price.proofs.Chain.{price-best, price-none, price-most, no-price-most}
 use Rattle.trades.specs.declared.{Trade.Trade}
 use Rattle.auction.specs.declared.{Outcome.Outcome, Outcome.TheVariants.Traded, Outcome.TheVariants.NoTrade, Outcome.TheVariants.NonOpening, Outcome.TheVariants.Delayed}
-use Rattle.trades.specs.Trades.{traded, volume, TradeList, volume-le-executable}
+use Rattle.trades.specs.Trades.{traded, volume, TradeList}
+use Rattle.trades.proofs.Trades.{volume-le-executable}
 use Rattle.trades.specs.Pairing.{amount}
-use Rattle.trades.specs.TradesOf.{fills, trades_of, trades-none, fills-amount, trades-volume, trades-possible, trades-in-order, trades-positive, traded-side, trades-count}
-use Rattle.auction.specs.Outcome.{Held, outcome, trades, price_answered, quantity_answered, count_answered, takes_place, outcome-traded, outcome-no-trade, outcome-prevented, unheld-takes-place}
+use Rattle.trades.specs.TradesOf.{fills, trades_of}
+use Rattle.trades.proofs.TradesOf.{trades-none, fills-amount, trades-volume, trades-possible, trades-in-order, trades-positive, traded-side, trades-count}
+use Rattle.auction.specs.Outcome.{Held, outcome, trades, price_answered, quantity_answered, count_answered, takes_place}
+use Rattle.auction.proofs.OutcomeLaws.{outcome-traded, outcome-no-trade, outcome-prevented, unheld-takes-place}
 use Rattle.auction.specs.After.{remaining}
-use Rattle.auction.specs.Left.{nothing_left}
-use Rattle.auction.specs.NonOpening.{Fillable, non-opening-exactly}
+use Rattle.auction.proofs.Left.{nothing_left}
+use Rattle.auction.specs.NonOpening.{Fillable}
+use Rattle.auction.proofs.NonOpening.{non-opening-exactly}
 
 -- What every book has: distinct numbers, something open in each order, and no more orders than places.
 pub record Ranged (resting : List Resting) : Type 0 where

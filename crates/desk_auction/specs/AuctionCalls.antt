@@ -12,12 +12,13 @@ use Rattle.book.specs.Columns.{order_at}
 use Rattle.book.specs.Resting.{resting}
 use Rattle.book.specs.ByPlace.{resting-intro}
 use Rattle.queue.specs.Distinct.{Distinct}
-use Rattle.queue.specs.Reach.{resting-distinct}
+use Rattle.queue.proofs.Reach.{resting-distinct}
 use Rattle.queue.specs.RankNumbers.{place_of_rank, along}
-use Rattle.queue.specs.Queue.{ranks-known}
+use Rattle.queue.proofs.Queue.{ranks-known}
 use Rattle.trades.specs.declared.{Trade.Trade}
 use Rattle.trades.specs.Trades.{volume}
-use Rattle.trades.specs.Written.{quadruples, quadruples-length, trades_read, trades-back}
+use Rattle.trades.specs.Written.{quadruples, trades_read}
+use Rattle.trades.proofs.Written.{quadruples-length, trades-back}
 use Rattle.auction.specs.declared.{Outcome.Outcome, Outcome.TheVariants.Traded, Outcome.TheVariants.NoTrade, Outcome.TheVariants.NonOpening, Outcome.TheVariants.Delayed}
 use Rattle.auction.specs.Outcome.{price_answered, quantity_answered}
 use Rattle.auction.specs.declared.trading.{Closed.Closed}
@@ -29,7 +30,7 @@ use Rattle.courses.specs.declared.{Course.Course, Course.TheVariants.Refused, Co
 use Rattle.courses.specs.Answer.{answer_with}
 use Rattle.courses.specs.Course.{result_by, takes_place}
 use Rattle.answers.specs.Auctions as plain
-use Rattle.answers.specs.AuctionCalls.{course_now, taken_trades, taken-fits, taken-volume, taken-ranks, taken-count}
+use Rattle.answers.proofs.AuctionCalls.{course_now, taken_trades, taken-fits, taken-volume, taken-ranks, taken-count}
 use Rattle.squares.specs.Square.{square_members, InBook, total, added_to, added_none}
 use Rattle.squares.specs.Naming.{named, place_column, renamed, renamed-written}
 use Rattle.squares.specs.Pairs.{pairs-named, pairs_of, along-named, at-a-rank, named-volume, added-named}

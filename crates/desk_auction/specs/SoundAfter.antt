@@ -7,10 +7,12 @@ use Rattle.terms.specs.declared.orders.{Auction.Auction, Auction.TheVariants.Ope
 use Rattle.book.specs.Resting.{changed}
 use Rattle.trades.specs.declared.{Trade.Trade}
 use Rattle.trades.specs.Trades.{volume}
-use Rattle.trades.specs.Written.{trades_read, trades_written, trades-back}
+use Rattle.trades.specs.Written.{trades_read, trades_written}
+use Rattle.trades.proofs.Written.{trades-back}
 use Rattle.auction.specs.declared.{Outcome.Outcome, Outcome.TheVariants.Traded, Outcome.TheVariants.NoTrade, Outcome.TheVariants.NonOpening, Outcome.TheVariants.Delayed}
 use Rattle.auction.specs.Outcome.{trades, price_answered, count_answered}
-use Rattle.auction.specs.After.{rest_of, rest-keeps}
+use Rattle.auction.specs.After.{rest_of}
+use Rattle.auction.proofs.AfterLaws.{rest-keeps}
 use Rattle.controls.specs.declared.phases.{Phase.Phase, Phase.TheVariants.Fresh, Phase.TheVariants.PreOpening, Phase.TheVariants.Day, Phase.TheVariants.Closed}
 use Rattle.controls.specs.Phases.{allows_auction, phase_after}
 use Rattle.refusals.specs.Checks.{answered-cases}
@@ -19,8 +21,8 @@ use Rattle.session.specs.declared.{Session.Session}
 use Rattle.session.specs.Sound.{legal_price}
 use Rattle.session.specs.State.{part}
 use Rattle.answers.specs.Auctions as plain
-use Rattle.answers.specs.SoundAfter.{auctioned-sound}
-use Rattle.answers.specs.AuctionCalls.{traded-within}
+use Rattle.answers.proofs.SoundAfter.{auctioned-sound}
+use Rattle.answers.proofs.AuctionCalls.{traded-within}
 use Rattle.squares.specs.Square.{total, added_to, all-added-length, all-added-most}
 use Rattle.desk.specs.declared.{Desk.Desk}
 use Rattle.desk.specs.Desk.{known}

@@ -8,7 +8,7 @@ use Rattle.terms.specs.Bounds.{places, max_number}
 use Rattle.terms.specs.Kinds.{is_price}
 use Rattle.terms.specs.Tables.{on_step}
 use Rattle.terms.specs.Orders.{is_limit, is_legal, limit_from, is_entry}
-use Rattle.terms.specs.Made.{fields-hold}
+use Rattle.terms.proofs.Made.{fields-hold}
 use Rattle.terms.specs.Parameters.{parameters_from, is_start}
 use Rattle.terms.specs.declared.orders.{Limit.Limit, Limit.TheVariants.Unlimited, Limit.TheVariants.At, Entry.Entry}
 use Rattle.terms.specs.declared.parameters.{Start.Start}

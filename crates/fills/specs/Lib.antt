@@ -3,7 +3,6 @@
 -- the paper
 pub mod Fill
 pub mod Front
-pub mod Examples
 -- as the code computes it
 pub mod Shares
 pub mod ShareFills

@@ -4,13 +4,9 @@
 pub mod Interest
 pub mod Candidates
 pub mod Chain
-pub mod Examples
-pub mod Clause7
 -- its laws
-pub mod Legal
 -- as the code computes it
 pub mod Search
 pub mod SearchFinds
 pub mod Weighing
 pub mod Below
-pub mod Ladder

@@ -6,30 +6,13 @@ use Rattle.terms.specs.declared.orders.{Side.TheVariants.Buy, Side.TheVariants.S
 use Rattle.queue.specs.Part.{taking_part}
 use Rattle.queue.specs.Rank.{ranked}
 
-abbrev numbers_of : List Resting → List ℕ
+abbrev pub numbers_of : List Resting → List ℕ
 numbers_of os = map (λ o. o.number) os
 
 -- one order of each validity
-abbrev four : List Resting
+abbrev pub four : List Resting
 four = order 1 Buy AtOpening 5 (at_price 100) ∷ order 2 Buy AtClose 5 (at_price 100) ∷ order 3 Buy Day 5 (at_price 100) ∷ order 4 Buy LaterDay 5 (at_price 100) ∷ []
-
--- the opening leaves at-the-close orders out; the closing leaves none out
-at-the-opening : numbers_of (taking_part Opening four) ≡ 1 ∷ 3 ∷ 4 ∷ []
-unfolding taking_part
-at-the-opening = refl
-
-at-the-closing : numbers_of (taking_part Closing four) ≡ 1 ∷ 2 ∷ 3 ∷ 4 ∷ []
-unfolding taking_part
-at-the-closing = refl
 
 -- orders 9 and 8 stand at places that were freed and reused: number, not place, decides at one limit
 abbrev pub mixed : List Resting
 mixed = buy 9 10 200 ∷ buy 2 20 200 ∷ sell 3 30 150 ∷ buy_any 8 40 ∷ sell 4 50 100 ∷ buy 5 60 300 ∷ []
-
-buys-ranked : numbers_of (ranked Buy mixed) ≡ 8 ∷ 5 ∷ 2 ∷ 9 ∷ []
-unfolding ranked
-buys-ranked = refl
-
-sells-ranked : numbers_of (ranked Sell mixed) ≡ 4 ∷ 3 ∷ []
-unfolding ranked
-sells-ranked = refl

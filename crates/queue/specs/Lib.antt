@@ -9,7 +9,4 @@ pub mod Examples
 pub mod Distinct
 -- as the code computes it
 pub mod RankNumbers
-pub mod Placing
-pub mod Keys
 pub mod Queue
-pub mod Reach

@@ -16,15 +16,3 @@ allows s p (At l) = no_worse s p l.0
 abbrev pub is_unlimited : Limit → Bool
 is_unlimited Unlimited = true
 is_unlimited (At p) = false
-
-pub no_worse-refl : (s : Side) (p : ℕ) → T (no_worse s p p)
-no_worse-refl Buy p = omega tests
-no_worse-refl Sell p = omega tests
-
-pub no_worse-trans : (s : Side) (p q r : ℕ) → T (no_worse s p q) → T (no_worse s q r) → T (no_worse s p r)
-no_worse-trans Buy p q r h k = omega tests
-no_worse-trans Sell p q r h k = omega tests
-
-pub no_worse-total : (s : Side) (p q : ℕ) → T (no_worse s p q) ⊎ T (no_worse s q p)
-no_worse-total Buy p q = leb-total p q
-no_worse-total Sell p q = leb-total q p

@@ -7,7 +7,8 @@ use Rattle.lists.specs.Choice.{any-intro}
 use Rattle.terms.specs.Bounds.{places}
 use Rattle.terms.specs.Kinds.{is_place}
 use Rattle.terms.specs.Orders.{Resting, side_number, side_from}
-use Rattle.terms.specs.Sides.{same_side, same_side-eq, same_side-refl, same_side-number}
+use Rattle.terms.specs.Sides.{same_side}
+use Rattle.terms.proofs.Sides.{same_side-eq, same_side-refl, same_side-number}
 use Rattle.terms.specs.declared.orders.{Side.Side, Side.TheVariants.Buy, Side.TheVariants.Sell}
 use Rattle.book.specs.declared.{Book.Book, Values.Values}
 use Rattle.quotes.specs.declared.{Pair.Pair}

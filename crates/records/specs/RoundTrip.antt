@@ -10,10 +10,11 @@ use Rattle.terms.specs.Bounds.{min_price, min_rows, max_rows}
 use Rattle.terms.specs.Kinds.{within, is_price, is_member, is_quantity, is_number}
 use Rattle.terms.specs.Orders.{is_side, is_validity, is_limit, limit_from}
 use Rattle.terms.specs.Parameters.{parameters_from, start_with, is_start}
-use Rattle.terms.specs.Made.{ParametersHold, parameters-hold}
+use Rattle.terms.specs.Made.{ParametersHold}
+use Rattle.terms.proofs.Made.{parameters-hold}
 use Rattle.terms.specs.Quotes.{is_quote_side}
 use Rattle.terms.specs.Tables.{all_rows, is_row, one_row}
-use Rattle.terms.specs.TableLaws.{table-parts}
+use Rattle.terms.proofs.TableLaws.{table-parts}
 use Rattle.terms.specs.declared.parameters.{Start.Start}
 use Rattle.terms.specs.declared.quote_terms.{SideEntry.SideEntry}
 use Rattle.records.specs.declared.{kinds.Record.Record}

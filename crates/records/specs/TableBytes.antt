@@ -6,7 +6,7 @@ use Rattle.lists.specs.Tests.{tests, and_both}
 use Rattle.terms.specs.Bounds.{min_rows, max_rows}
 use Rattle.terms.specs.Kinds.{within, is_price, is_step}
 use Rattle.terms.specs.Tables.{all_rows, is_row, no_row, is_no_row, is_table}
-use Rattle.terms.specs.TableLaws.{table-parts}
+use Rattle.terms.proofs.TableLaws.{table-parts}
 use Rattle.terms.specs.declared.parameters.{Start.Start}
 use Rattle.terms.specs.declared.tables.{Row.Row}
 use Rattle.records.specs.declared.{kinds.Record.Record}

@@ -6,7 +6,7 @@ use Rattle.terms.specs.Bounds.{max_number}
 use Rattle.terms.specs.Kinds.{is_price}
 use Rattle.terms.specs.Tables.{row_of, on_step, is_table, is_reference}
 use Rattle.terms.specs.Parameters.{are_parameters}
-use Rattle.terms.specs.Made.{parameters-hold}
+use Rattle.terms.proofs.Made.{parameters-hold}
 use Rattle.terms.specs.declared.kinds.{Price.Price}
 use Rattle.terms.specs.declared.parameters.{Parameters.Parameters}
 use Rattle.book.specs.declared.Book.{Book}

@@ -10,7 +10,8 @@ use Rattle.terms.specs.declared.orders.{Side.Side, Auction.Auction}
 use Rattle.book.specs.Columns.{order_at}
 use Rattle.queue.specs.RankNumbers.{place_of_rank, along}
 use Rattle.queue.specs.Rank.{ranked}
-use Rattle.fills.specs.Front.{front, front-longest}
+use Rattle.fills.specs.Front.{front}
+use Rattle.fills.proofs.FrontLaws.{front-longest}
 use Rattle.refusals.specs.Checks.{Check, first_hit, answered-refused, answered-done, hits, passes, passes-last}
 use Rattle.refusals.specs.Rows.{ranked_later}
 use Rattle.refusals.specs.Exactly.{clear}

@@ -1,7 +1,6 @@
 -- Quotes: 02 K2. A limited buy and a limited sell in one instruction.
-use Rattle.std.specs.Prelude.{ℕ, Bool, cond, ◌&&◌, leb}
+use Rattle.std.specs.Prelude.{Bool, cond, ◌&&◌, leb}
 use Rattle.terms.specs.Kinds.{is_price, is_quantity, is_member}
-use Rattle.terms.specs.declared.kinds.{Member.Member, Quantity.Quantity, Price.Price}
 use Rattle.terms.specs.declared.orders.Side.{Side}
 use Rattle.terms.specs.declared.orders.Side.TheVariants.{Buy, Sell}
 use Rattle.terms.specs.declared.orders.Validity.TheVariants.{Day}

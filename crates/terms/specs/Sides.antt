@@ -1,6 +1,5 @@
 -- Whether two sides are one.
-use Rattle.std.specs.Prelude.{ℕ, Bool, true, false, ◌≡◌, refl, T, eqb}
-use Rattle.terms.specs.Orders.{side_number}
+use Rattle.std.specs.Prelude.{Bool, true, false}
 use Rattle.terms.specs.declared.orders.{Side.Side, Side.TheVariants.Buy, Side.TheVariants.Sell}
 
 abbrev pub same_side : Side → Side → Bool
@@ -8,20 +7,3 @@ same_side Buy Buy = true
 same_side Buy Sell = false
 same_side Sell Buy = false
 same_side Sell Sell = true
-
-pub same_side-eq : (s t : Side) → T (same_side s t) → s ≡ t
-same_side-eq Buy Buy h = refl
-same_side-eq Buy Sell h = absurd h
-same_side-eq Sell Buy h = absurd h
-same_side-eq Sell Sell h = refl
-
-pub same_side-refl : (s : Side) → T (same_side s s)
-same_side-refl Buy = tt
-same_side-refl Sell = tt
-
--- .. by their numbers
-pub same_side-number : (s t : Side) → eqb (side_number s) (side_number t) ≡ same_side s t
-same_side-number Buy Buy = refl
-same_side-number Buy Sell = refl
-same_side-number Sell Buy = refl
-same_side-number Sell Sell = refl

@@ -1,5 +1,5 @@
 -- Price steps by band: 02 K6. Rows of a lowest price and a step; a start of kind 1 means one row.
-use Rattle.std.specs.Prelude.{ℕ, zero, suc, Bool, true, false, cond, ◌&&◌, List, [], ◌∷◌, leb, ltb, eqb, take, drop}
+use Rattle.std.specs.Prelude.{ℕ, suc, Bool, true, false, cond, ◌&&◌, List, [], ◌∷◌, leb, ltb, eqb, take, drop}
 use Rattle.lists.specs.Choice.{all}
 use Rattle.terms.specs.Bounds.{min_price, min_rows, max_rows}
 use Rattle.terms.specs.Kinds.{within, is_price, is_step, is_multiple}

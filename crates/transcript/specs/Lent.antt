@@ -7,7 +7,8 @@ use Rattle.terms.specs.Orders.{auction_from}
 use Rattle.terms.specs.declared.orders.{Auction.Auction}
 use Rattle.trades.specs.declared.{Trade.Trade}
 use Rattle.auction.specs.Outcome.{price_answered}
-use Rattle.trades.specs.Written.{trades_read, trades-back}
+use Rattle.trades.specs.Written.{trades_read}
+use Rattle.trades.proofs.Written.{trades-back}
 use Rattle.session.specs.declared.{Session.Session}
 use Rattle.answers.specs.declared.{Auctioned.Auctioned}
 use Rattle.refusals.specs.Checks.{Check, first_hit, answered_by, answered, answered-cases}

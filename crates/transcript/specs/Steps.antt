@@ -9,15 +9,15 @@ use Rattle.trades.specs.declared.{Trade.Trade}
 use Rattle.refusals.specs.Checks.{answered-cases}
 use Rattle.book.specs.Resting.{resting, place_in}
 use Rattle.book.specs.ByPlace.{resting-length}
-use Rattle.queue.specs.Part.{taking_part-length}
+use Rattle.queue.proofs.Part.{taking_part-length}
 use Rattle.auction.specs.declared.{Outcome.Outcome, Outcome.TheVariants.Traded, Outcome.TheVariants.NoTrade, Outcome.TheVariants.NonOpening, Outcome.TheVariants.Delayed}
-use Rattle.trades.specs.TradesOf.{trades-count}
+use Rattle.trades.proofs.TradesOf.{trades-count}
 use Rattle.auction.specs.Outcome.{trades}
 use Rattle.session.specs.declared.{Session.Session}
 use Rattle.entries.specs.declared.{Entered.Entered, Deleted.Deleted}
 use Rattle.session.specs.Sound.{Sound}
 use Rattle.entries.specs.SoundAfter.{started-sound, entered-sound, deleted-sound}
-use Rattle.answers.specs.SoundAfter.{auctioned-sound}
+use Rattle.answers.proofs.SoundAfter.{auctioned-sound}
 use Rattle.answers.specs.Auctions.{auction_checks, auctioned, outcome_of, trades_now}
 use Rattle.session.specs.State.{part}
 use Rattle.records.specs.declared.{kinds.Record.Record, kinds.Deletion.Deletion}

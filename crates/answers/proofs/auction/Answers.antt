@@ -8,12 +8,12 @@ use lib.Seq.{length-take-le}
 use Rattle.terms.specs.Bounds.{places}
 use Rattle.places.specs.Words.{behind-within}
 use Rattle.book.specs.Settling.{settled-as}
-use Rattle.auction.specs.Trading.{asks-part}
+use Rattle.auction.proofs.TradingLaws.{asks-part}
 use Rattle.terms.specs.declared.orders.{Auction.Auction}
 use Rattle.auction.specs.declared.{Outcome.Outcome}
 use Rattle.courses.specs.declared.{Course.Course, Course.TheVariants.Refused, Course.TheVariants.HeldBack, Course.TheVariants.TakesPlace}
 use Rattle.courses.specs.Course.{takes_place}
-use Rattle.answers.specs.AuctionCalls.{course_now, course-planned, course-priced, taken-few, leaves_kept, leaves-taken}
+use Rattle.answers.proofs.AuctionCalls.{course_now, course-planned, course-priced, taken-few, leaves_kept, leaves-taken}
 use borrow.Author.Rules.{rules}
 use Rattle.answers.proofs.auction.Goals as goal
 use Rattle.answers.proofs.auction.Goals.{in-TakesPlace, in_default}
@@ -78,21 +78,21 @@ pub returns : goal.returns
 returns c = let a = c.args in
     let planned = c.planned-plan in
     elim c.match-course.branch [
-    in-TakesPlace w ↦ leaves-taken a.session c.requires a.which a.list.now c.match-course.course (course-at (goal.at.returns c).Joined-course) c.match-course.session c.match-course.count c.match-course.list
-    c.answer_of-answer.result c.answer_of-answer.ensures c.result_of-result.result c.result_of-result.ensures c.standing_after-standing.result c.standing_after-standing.ensures
-    w.course-is (ranks (goal.at.returns c).After-planned-plan) planned.result.bids planned.result.asks planned.ensures.buys planned.ensures.sells
-    (record {
-      taken = w.settle_words.new.taken;
-      number = w.settle32.new.column;
-      member = w.settle16.new.column;
-      side = w.settle8.new.column;
-      validity = w.settle8-in-TakesPlace.new.column;
-      left = w.settle_left.new.lefts;
-      limit = w.settle32-in-TakesPlace.new.column;
-      quoted = w.settle8-in-TakesPlace-2.new.column;
-    }) w.session-is w.traded-closed.result w.count-is (let e = rw (asks-part planned.result.bids planned.result.asks (ranks (goal.at.returns c).After-planned-plan), w.price_of.ensures, w.quantity_of.ensures) at w.traded-closed.ensures in (e.0, e.1, λ h. w.list-is ∙ e.2 h)) w.behind_taken-end.result w.behind_taken-end.ensures
-    (settled-as w.traded-closed.result.rests a.session.book w.behind_taken-end.result w.settle_words.ensures w.settle32.ensures w.settle16.ensures w.settle8.ensures w.settle8-in-TakesPlace.ensures w.settle_left.ensures w.settle32-in-TakesPlace.ensures w.settle8-in-TakesPlace-2.ensures)
-    | in_default w ↦ leaves_kept a.session c.requires a.which a.list.now c.match-course.course (course-at (goal.at.returns c).Joined-course) c.match-course.session c.match-course.count c.match-course.list
-    c.answer_of-answer.result c.answer_of-answer.ensures c.result_of-result.result c.result_of-result.ensures c.standing_after-standing.result c.standing_after-standing.ensures
-    (ap takes_place w.course-is ∙ not-taking planned.result.course w.in_default.not-TakesPlace) w.session-is w.count-is w.list-is
+      | in-TakesPlace w ↦ leaves-taken a.session c.requires a.which a.list.now c.match-course.course (course-at (goal.at.returns c).Joined-course) c.match-course.session c.match-course.count c.match-course.list
+          c.answer_of-answer.result c.answer_of-answer.ensures c.result_of-result.result c.result_of-result.ensures c.standing_after-standing.result c.standing_after-standing.ensures
+          w.course-is (ranks (goal.at.returns c).After-planned-plan) planned.result.bids planned.result.asks planned.ensures.buys planned.ensures.sells
+          (record {
+            taken = w.settle_words.new.taken;
+            number = w.settle32.new.column;
+            member = w.settle16.new.column;
+            side = w.settle8.new.column;
+            validity = w.settle8-in-TakesPlace.new.column;
+            left = w.settle_left.new.lefts;
+            limit = w.settle32-in-TakesPlace.new.column;
+            quoted = w.settle8-in-TakesPlace-2.new.column;
+          }) w.session-is w.traded-closed.result w.count-is (let e = rw (asks-part planned.result.bids planned.result.asks (ranks (goal.at.returns c).After-planned-plan), w.price_of.ensures, w.quantity_of.ensures) at w.traded-closed.ensures in (e.0, e.1, λ h. w.list-is ∙ e.2 h)) w.behind_taken-end.result w.behind_taken-end.ensures
+          (settled-as w.traded-closed.result.rests a.session.book w.behind_taken-end.result w.settle_words.ensures w.settle32.ensures w.settle16.ensures w.settle8.ensures w.settle8-in-TakesPlace.ensures w.settle_left.ensures w.settle32-in-TakesPlace.ensures w.settle8-in-TakesPlace-2.ensures)
+      | in_default w ↦ leaves_kept a.session c.requires a.which a.list.now c.match-course.course (course-at (goal.at.returns c).Joined-course) c.match-course.session c.match-course.count c.match-course.list
+          c.answer_of-answer.result c.answer_of-answer.ensures c.result_of-result.result c.result_of-result.ensures c.standing_after-standing.result c.standing_after-standing.ensures
+          (ap takes_place w.course-is ∙ not-taking planned.result.course w.in_default.not-TakesPlace) w.session-is w.count-is w.list-is
     ]

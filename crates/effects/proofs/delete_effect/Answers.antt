@@ -3,7 +3,7 @@ use mathlib.Core.Path.{◌≡◌, sym, ◌∙◌}
 use native.Mathlib.Omega.{arith}
 use borrow.Author.Rules.{rules}
 use Rattle.terms.specs.Kinds.{is_number, is_member}
-use Rattle.terms.specs.Made.{number-good, number-refused, member-good, member-refused}
+use Rattle.terms.proofs.Made.{number-good, number-refused, member-good, member-refused}
 use Rattle.effects.specs.Effects.{delete-out-of-range, delete-turned-down, delete-room, delete-done}
 use Rattle.effects.proofs.delete_effect.Goals as goal
 use Rattle.effects.proofs.delete_effect.Goals.{In-Good-new}

@@ -2,7 +2,7 @@ use mathlib.Core.Bool.{true}
 use mathlib.Core.Path.{◌≡◌, sym, ◌∙◌}
 use native.Mathlib.Omega.{arith}
 use borrow.Author.Rules.{rules}
-use Rattle.terms.specs.Made.{order-good, order-refused}
+use Rattle.terms.proofs.Made.{order-good, order-refused}
 use Rattle.terms.specs.Orders.{is_entry, order_from}
 use Rattle.effects.specs.Effects.{order-out-of-range, order-turned-down, number-left, place-left, order-done}
 use Rattle.effects.proofs.order_effect.Goals as goal

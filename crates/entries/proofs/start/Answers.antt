@@ -1,6 +1,6 @@
 use mathlib.Core.Path.{◌≡◌, sym, ◌∙◌}
 use borrow.Author.Rules.{rules}
-use Rattle.terms.specs.Made.{parameters-good, parameters-refused}
+use Rattle.terms.proofs.Made.{parameters-good, parameters-refused}
 use Rattle.entries.specs.StartCall.{start-out-of-range, start-again, start-begun}
 use Rattle.entries.proofs.start.Goals as goal
 

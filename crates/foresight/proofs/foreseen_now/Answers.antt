@@ -6,9 +6,9 @@ use lib.ListN.{take, drop}
 use lib.Seq.{length-take-le}
 use Rattle.terms.specs.declared.orders.{Side.TheVariants.Buy, Side.TheVariants.Sell}
 use Rattle.auction.specs.declared.{Outcome.TheVariants.Traded, Outcome.TheVariants.NoTrade, Outcome.TheVariants.NonOpening, Outcome.TheVariants.Delayed}
-use Rattle.auction.specs.Trading.{ranks-few, asks-part}
+use Rattle.auction.proofs.TradingLaws.{ranks-few, asks-part}
 use Rattle.answers.specs.Auctions.{outcome_of}
-use Rattle.answers.specs.AuctionCalls.{outcome-by-ranks, foretold, trades-counted}
+use Rattle.answers.proofs.AuctionCalls.{outcome-by-ranks, foretold, trades-counted}
 use borrow.Author.Rules.{rules}
 use Rattle.foresight.proofs.foreseen_now.Goals as goal
 use Rattle.foresight.proofs.foreseen_now.Goals.{After-outlook-view}

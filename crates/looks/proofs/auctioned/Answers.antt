@@ -1,7 +1,7 @@
 use Rattle.std.proofs.Common.{sym, subst}
 use Rattle.session.specs.Sound.{Sound}
 use Rattle.answers.specs.Auctions.{AuctionLeaves}
-use Rattle.answers.specs.SoundAfter.{auctioned-sound}
+use Rattle.answers.proofs.SoundAfter.{auctioned-sound}
 use Rattle.looks.proofs.auctioned.Goals as goal
 
 pub returns : goal.returns

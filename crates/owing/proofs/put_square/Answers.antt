@@ -12,11 +12,11 @@ use Rattle.owing.proofs.put_square.Goals as goal
 
 pub loop-row-init : goal.loop-row-init
 loop-row-init c = let a = c.args in
-    (omega arith, first-none (λ i. row_lines a.desk (get_or a.desk i 0) (get_or a.t4 i [])) (square_members * owes_most) a.out.now a.at (omega (arith, c.requires)))
+    (omega arith, first-none (λ i. row_lines a.members (get_or a.members i 0) (get_or a.owed i [])) (square_members * owes_most) a.out.now a.at (omega (arith, c.requires)))
 
 pub loop-row-preserved : goal.loop-row-preserved
 loop-row-preserved c = let l = c.loop-row in
     let a = c.args in (
       omega arith,
-      first_next (λ i. row_lines a.desk (get_or a.desk i 0) (get_or a.t4 i [])) (square_members * owes_most) a.out.now a.at (omega (arith, c.requires)) l.row l.out c.put_row-end.new.out l.end c.put_row-end.result c.put_row-end.auto.out l.invariant.1 c.put_row-end.ensures,
+      first_next (λ i. row_lines a.members (get_or a.members i 0) (get_or a.owed i [])) (square_members * owes_most) a.out.now a.at (omega (arith, c.requires)) l.row l.out c.put_row-end.new.out l.end c.put_row-end.result c.put_row-end.auto.out l.invariant.1 c.put_row-end.ensures,
     )

@@ -4,9 +4,9 @@ use lib.Seq.{length-take-le}
 use native.Mathlib.Omega.{arith}
 use borrow.Author.Tests.{lt-ltb, le-ltb}
 use borrow.Author.Rules.{rules}
-use Rattle.terms.specs.Made.{side-good, side-refused}
+use Rattle.terms.proofs.Made.{side-good, side-refused}
 use Rattle.terms.specs.Orders.{is_side, side_from}
-use Rattle.fills.specs.Front.{front-longest}
+use Rattle.fills.proofs.FrontLaws.{front-longest}
 use Rattle.standings.specs.QueueCalls.{front-turned-down, front-found}
 use Rattle.standings.proofs.filled_front.Goals as goal
 use Rattle.standings.proofs.filled_front.Goals.{In-Good}

@@ -7,12 +7,12 @@ use lib.ListN.{length, take}
 use lib.Seq.{length-take-le}
 use borrow.Author.Rules.{rules}
 use Rattle.terms.specs.Bounds.{places}
-use Rattle.terms.specs.Made.{side-good, side-refused, auction-good, auction-refused}
+use Rattle.terms.proofs.Made.{side-good, side-refused, auction-good, auction-refused}
 use Rattle.terms.specs.Orders.{is_side, side_from, is_auction, auction_from}
 use Rattle.book.specs.Columns.{order_at}
 use Rattle.queue.specs.RankNumbers.{place_of_rank}
-use Rattle.queue.specs.Placing.{ranks-fit}
-use Rattle.queue.specs.Queue.{ranked-by-ranks}
+use Rattle.queue.proofs.Placing.{ranks-fit}
+use Rattle.queue.proofs.Queue.{ranked-by-ranks}
 use Rattle.session.specs.Sound.{legal_price, number-room}
 use Rattle.standings.specs.QueueCalls.{queue-out-of-range, queue-turned-down, queue-room, queue-listed}
 use Rattle.standings.proofs.ranked.Goals as goal

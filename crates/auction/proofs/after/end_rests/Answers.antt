@@ -2,7 +2,8 @@ use borrow.Author.Rules.{rules}
 use Prim.Native.Nat.{◌-◌, ◌≤◌}
 use mathlib.Core.Path.{◌≡◌}
 use native.Mathlib.Omega.{arith}
-use Rattle.auction.specs.Ended.{ended_to, ended-next}
+use Rattle.auction.specs.Ended.{ended_to}
+use Rattle.auction.proofs.Ended.{ended-next}
 use Rattle.auction.proofs.after.end_rests.Goals as goal
 
 pub loop-place-init : goal.loop-place-init

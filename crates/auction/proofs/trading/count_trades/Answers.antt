@@ -6,7 +6,7 @@ use native.Mathlib.Omega.{arith}
 use borrow.Author.Rules.{rules}
 use lib.ListN.{length, take}
 use lib.Seq.{length-take-le}
-use Rattle.auction.specs.Composed.{few-trades, trades-composed}
+use Rattle.auction.proofs.Composed.{few-trades, trades-composed}
 use Rattle.auction.proofs.trading.count_trades.Goals as goal
 use Rattle.auction.proofs.trading.count_trades.Goals.{After-share_out-asks, After-share_out-bids}
 

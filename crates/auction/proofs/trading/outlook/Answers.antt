@@ -2,7 +2,7 @@ use mathlib.Core.Path.{sym, ◌∙◌}
 use native.Mathlib.Omega.{arith}
 use lib.Seq.{length-take-le}
 use Rattle.terms.specs.declared.orders.{Side.TheVariants.Buy, Side.TheVariants.Sell}
-use Rattle.auction.specs.Trading.{ranks-few, ranks-ascend, asks-part}
+use Rattle.auction.proofs.TradingLaws.{ranks-few, ranks-ascend, asks-part}
 use borrow.Author.Rules.{rules}
 use Rattle.auction.proofs.trading.outlook.Goals as goal
 

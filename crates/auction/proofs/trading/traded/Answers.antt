@@ -7,7 +7,7 @@ use lib.ListN.{length, take}
 use lib.Seq.{length-take-le}
 use Rattle.fills.specs.Shares.{lessened}
 use Rattle.auction.specs.Ended.{ended}
-use Rattle.auction.specs.Composed.{few-trades, trades-composed, left-composed}
+use Rattle.auction.proofs.Composed.{few-trades, trades-composed, left-composed}
 use borrow.Author.Rules.{rules}
 use Rattle.auction.proofs.trading.traded.Goals as goal
 use Rattle.auction.proofs.trading.traded.Goals.{After-share_out-asks, After-share_out-bids}

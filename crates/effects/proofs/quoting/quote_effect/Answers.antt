@@ -4,7 +4,7 @@ use mathlib.Core.Path.{◌≡◌, sym, ◌∙◌}
 use native.Mathlib.Omega.{arith}
 use borrow.Author.Rules.{rules}
 use Rattle.terms.specs.Bounds.{max_number}
-use Rattle.terms.specs.Made.{quote-good, quote-refused}
+use Rattle.terms.proofs.Made.{quote-good, quote-refused}
 use Rattle.terms.specs.Quotes.{is_quote, quote_from}
 use Rattle.effects.specs.QuoteEffects.{quote-out-of-range, quote-turned-down, numbers-left, quote-done}
 use Rattle.effects.proofs.quoting.quote_effect.Goals as goal

@@ -3,7 +3,8 @@ use mathlib.Core.Path.{◌≡◌}
 use native.Mathlib.Omega.{arith}
 use borrow.Author.Rules.{rules}
 use lib.ListN.{length, drop}
-use Rattle.fills.specs.Front.{front, front-stop, front-more, front-end}
+use Rattle.fills.specs.Front.{front}
+use Rattle.fills.proofs.FrontLaws.{front-stop, front-more, front-end}
 use Rattle.fills.proofs.front.front_length.Goals as goal
 
 pub returns-then-rest-x : goal.returns-then-rest-x

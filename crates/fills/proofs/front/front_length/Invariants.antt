@@ -4,7 +4,8 @@ use mathlib.Core.Path.{◌≡◌}
 use native.Mathlib.Omega.{arith}
 use borrow.Author.Rules.{rules}
 use lib.ListN.{length, drop}
-use Rattle.fills.specs.Front.{front, front-stop, front-more, front-end}
+use Rattle.fills.specs.Front.{front}
+use Rattle.fills.proofs.FrontLaws.{front-stop, front-more, front-end}
 use Rattle.fills.proofs.front.front_length.Given as goal
 
 abbrev pub invariant-loop-i : goal.invariant-loop-i

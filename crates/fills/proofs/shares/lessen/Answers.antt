@@ -3,7 +3,8 @@ use mathlib.Core.Path.{◌≡◌, ◌∙◌}
 use native.Mathlib.Omega.{arith}
 use borrow.Author.Rules.{rules}
 use lib.ListN.{length-set, length, drop}
-use Rattle.fills.specs.Shares.{lessened, lessened-step, lessened-end}
+use Rattle.fills.specs.Shares.{lessened}
+use Rattle.fills.proofs.SharesLaws.{lessened-step, lessened-end}
 use Rattle.fills.proofs.shares.lessen.Goals as goal
 
 pub loop-i-preserved : goal.loop-i-preserved

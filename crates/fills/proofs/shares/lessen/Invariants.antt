@@ -4,7 +4,8 @@ use mathlib.Core.Path.{◌≡◌, ◌∙◌}
 use native.Mathlib.Omega.{arith}
 use borrow.Author.Rules.{rules}
 use lib.ListN.{length-set, length, drop}
-use Rattle.fills.specs.Shares.{lessened, lessened-step, lessened-end}
+use Rattle.fills.specs.Shares.{lessened}
+use Rattle.fills.proofs.SharesLaws.{lessened-step, lessened-end}
 use Rattle.fills.proofs.shares.lessen.Given as goal
 
 abbrev pub invariant-loop-i : goal.invariant-loop-i

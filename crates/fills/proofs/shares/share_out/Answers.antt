@@ -5,7 +5,8 @@ use native.Mathlib.Omega.{arith}
 use borrow.Author.Rules.{rules}
 use lib.ListN.{length, get_or, take, drop, length-set}
 use Rattle.queue.specs.RankNumbers.{place_of_rank}
-use Rattle.fills.specs.Shares.{shares_of, shares-step, shares-stop, shares-end}
+use Rattle.fills.specs.Shares.{shares_of}
+use Rattle.fills.proofs.SharesLaws.{shares-step, shares-stop, shares-end}
 use Rattle.fills.proofs.shares.share_out.Goals as goal
 
 pub returns-then-rest-eq0 : goal.returns-then-rest-eq0

@@ -3,7 +3,7 @@ use lib.ListN.{get_or}
 use borrow.Author.Rules.{rules}
 use Rattle.queue.specs.RankNumbers.{place_of_rank}
 use Rattle.price.specs.Below.{front-none}
-use Rattle.price.specs.Weighing.{searched-from}
+use Rattle.price.proofs.Weighing.{searched-from}
 use Rattle.price.proofs.search.searched.Goals as goal
 
 pub front_at-demand-requires : goal.front_at-demand-requires

@@ -5,7 +5,7 @@ use Rattle.terms.specs.declared.orders.{Side.TheVariants.Buy, Side.TheVariants.S
 use Rattle.queue.specs.RankNumbers.{place_of_rank}
 use Rattle.price.specs.Search.{offered}
 use Rattle.price.specs.Below.{IsFront, front-none}
-use Rattle.price.specs.Weighing.{WeighedTo, to_start, to-passed, to-weighed, to_end}
+use Rattle.price.proofs.Weighing.{WeighedTo, to_start, to-passed, to-weighed, to_end}
 use Rattle.price.proofs.search.weigh_limits.Goals as goal
 
 pub loop-i-init : goal.loop-i-init

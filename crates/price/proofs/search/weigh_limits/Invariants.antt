@@ -6,7 +6,7 @@ use Rattle.terms.specs.declared.orders.{Side.TheVariants.Buy, Side.TheVariants.S
 use Rattle.queue.specs.RankNumbers.{place_of_rank}
 use Rattle.price.specs.Search.{offered}
 use Rattle.price.specs.Below.{IsFront, front-none}
-use Rattle.price.specs.Weighing.{WeighedTo, to_start, to-passed, to-weighed, to_end}
+use Rattle.price.proofs.Weighing.{WeighedTo, to_start, to-passed, to-weighed, to_end}
 use Rattle.price.proofs.search.weigh_limits.Given as goal
 
 abbrev pub invariant-loop-i : goal.invariant-loop-i

@@ -1,5 +1,5 @@
 use mathlib.Core.Path.{sym, ◌∙◌}
-use Rattle.terms.specs.Made.{order-good, order-refused}
+use Rattle.terms.proofs.Made.{order-good, order-refused}
 use Rattle.records.proofs.ranges.order_in_range.Goals as goal
 
 pub returns-in_default : goal.returns-in_default

@@ -1,5 +1,5 @@
 use mathlib.Core.Path.{sym, ◌∙◌}
-use Rattle.terms.specs.Made.{quote-good, quote-refused}
+use Rattle.terms.proofs.Made.{quote-good, quote-refused}
 use Rattle.records.proofs.ranges.quote_in_range.Goals as goal
 
 pub returns-in_default : goal.returns-in_default

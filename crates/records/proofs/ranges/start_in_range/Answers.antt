@@ -1,5 +1,5 @@
 use mathlib.Core.Path.{sym, ◌∙◌}
-use Rattle.terms.specs.Made.{parameters-good, parameters-refused}
+use Rattle.terms.proofs.Made.{parameters-good, parameters-refused}
 use Rattle.records.proofs.ranges.start_in_range.Goals as goal
 
 pub returns-in_default : goal.returns-in_default

@@ -6,7 +6,7 @@ use borrow.Author.Rules.{rules}
 use lib.Dec.{ltb}
 use lib.ListN.{length, get_or, length-map}
 use Rattle.queue.specs.RankNumbers.{place_of_rank, along}
-use Rattle.trades.specs.Turns.{State, state-start, state-end, state-on, state-step}
+use Rattle.trades.proofs.Turns.{State, state-start, state-end, state-on, state-step}
 use Rattle.trades.proofs.pairing.pair.Goals as goal
 use Rattle.trades.proofs.pairing.pair.Goals.{In-loop-b}
 

@@ -18,7 +18,7 @@ use Rattle.transcript.specs.Underway.{Underway, underway-first, underway-next, u
 use borrow.Author.Rules.{rules}
 use native.Mathlib.Omega.{arith}
 use Rattle.transcript.proofs.tell.records_told.Goals as goal
-use Rattle.transcript.proofs.tell.records_told.Goals.{After-doing_of-doing, In-Done-2, In-Quoted-2, In-Record}
+use Rattle.transcript.proofs.tell.records_told.Goals.{After-doing_of-doing, In-Done, In-Quoted, In-Record}
 
 -- the record that is told next brings the place further, and there is room for its lines
 onward : (c : In-Record) → let l = c.loop-record in
@@ -48,7 +48,7 @@ stands c e = let l = c.loop-record in
     bands-told a.bytes.now l.place c.in-Record.behind there does
 
 -- a change is at a place
-in-book : (c : In-Done-2) → c.in-Done.c.place < places
+in-book : (c : In-Done) → c.in-Done.c.place < places
 in-book c = (does-found c.loop-record.present c.loop-record.invariant.0.sound c.in-Record.record (sym c.in-Done.is ∙ c.doing_of-doing.ensures)).1
 
 pub loop-record-init : goal.loop-record-init
@@ -81,31 +81,31 @@ loop-record-preserved-in-Refused c = let l = c.loop-record in
     )
 
 pub put_word-requires : goal.put_word-requires
-put_word-requires c = omega (arith, in-book (goal.at.put_word-requires c).In-Done-2)
+put_word-requires c = omega (arith, in-book (goal.at.put_word-requires c).In-Done)
 
 pub put32-requires : goal.put32-requires
-put32-requires c = in-book (goal.at.put32-requires c).In-Done-2
+put32-requires c = in-book (goal.at.put32-requires c).In-Done
 
 pub put16-requires : goal.put16-requires
-put16-requires c = in-book (goal.at.put16-requires c).In-Done-2
+put16-requires c = in-book (goal.at.put16-requires c).In-Done
 
 pub put8-requires : goal.put8-requires
-put8-requires c = in-book (goal.at.put8-requires c).In-Done-2
+put8-requires c = in-book (goal.at.put8-requires c).In-Done
 
 pub put8-requires-in-Done : goal.put8-requires-in-Done
-put8-requires-in-Done c = in-book (goal.at.put8-requires-in-Done c).In-Done-2
+put8-requires-in-Done c = in-book (goal.at.put8-requires-in-Done c).In-Done
 
 pub put32-requires-in-Done : goal.put32-requires-in-Done
-put32-requires-in-Done c = in-book (goal.at.put32-requires-in-Done c).In-Done-2
+put32-requires-in-Done c = in-book (goal.at.put32-requires-in-Done c).In-Done
 
 pub put32-requires-in-Done-2 : goal.put32-requires-in-Done-2
-put32-requires-in-Done-2 c = in-book (goal.at.put32-requires-in-Done-2 c).In-Done-2
+put32-requires-in-Done-2 c = in-book (goal.at.put32-requires-in-Done-2 c).In-Done
 
 pub put8-requires-in-Done-2 : goal.put8-requires-in-Done-2
-put8-requires-in-Done-2 c = in-book (goal.at.put8-requires-in-Done-2 c).In-Done-2
+put8-requires-in-Done-2 c = in-book (goal.at.put8-requires-in-Done-2 c).In-Done
 
 pub hint-requires : goal.hint-requires
-hint-requires c = in-book (goal.at.hint-requires c).In-Done-2
+hint-requires c = in-book (goal.at.hint-requires c).In-Done
 
 pub loop-record-smaller-in-Done : goal.loop-record-smaller-in-Done
 loop-record-smaller-in-Done c = let f = onward (goal.at.loop-record-smaller-in-Done c).In-Record in omega (arith, f.0, f.1)
@@ -128,41 +128,41 @@ loop-record-preserved-in-Done c = let l = c.loop-record in
     )
 
 -- a quote's new sides are at places
-in-book-both : (c : In-Quoted-2) → let change = c.in-Quoted.c in (change.fresh.bid < places) × (change.fresh.ask < places)
+in-book-both : (c : In-Quoted) → let change = c.in-Quoted.c in (change.fresh.bid < places) × (change.fresh.ask < places)
 in-book-both c = (does-found c.loop-record.present c.loop-record.invariant.0.sound c.in-Record.record (sym c.in-Quoted.is ∙ c.doing_of-doing.ensures)).1
 
 pub requote32-requires : goal.requote32-requires
-requote32-requires c = in-book-both (goal.at.requote32-requires c).In-Quoted-2
+requote32-requires c = in-book-both (goal.at.requote32-requires c).In-Quoted
 
 pub requote16-requires : goal.requote16-requires
-requote16-requires c = in-book-both (goal.at.requote16-requires c).In-Quoted-2
+requote16-requires c = in-book-both (goal.at.requote16-requires c).In-Quoted
 
 pub requote8-requires : goal.requote8-requires
-requote8-requires c = in-book-both (goal.at.requote8-requires c).In-Quoted-2
+requote8-requires c = in-book-both (goal.at.requote8-requires c).In-Quoted
 
 pub requote8-requires-in-Quoted : goal.requote8-requires-in-Quoted
-requote8-requires-in-Quoted c = in-book-both (goal.at.requote8-requires-in-Quoted c).In-Quoted-2
+requote8-requires-in-Quoted c = in-book-both (goal.at.requote8-requires-in-Quoted c).In-Quoted
 
 pub requote32-requires-in-Quoted : goal.requote32-requires-in-Quoted
-requote32-requires-in-Quoted c = in-book-both (goal.at.requote32-requires-in-Quoted c).In-Quoted-2
+requote32-requires-in-Quoted c = in-book-both (goal.at.requote32-requires-in-Quoted c).In-Quoted
 
 pub requote32-requires-in-Quoted-2 : goal.requote32-requires-in-Quoted-2
-requote32-requires-in-Quoted-2 c = in-book-both (goal.at.requote32-requires-in-Quoted-2 c).In-Quoted-2
+requote32-requires-in-Quoted-2 c = in-book-both (goal.at.requote32-requires-in-Quoted-2 c).In-Quoted
 
 pub requote8-requires-in-Quoted-2 : goal.requote8-requires-in-Quoted-2
-requote8-requires-in-Quoted-2 c = in-book-both (goal.at.requote8-requires-in-Quoted-2 c).In-Quoted-2
+requote8-requires-in-Quoted-2 c = in-book-both (goal.at.requote8-requires-in-Quoted-2 c).In-Quoted
 
 pub hint-requires-in-Quoted : goal.hint-requires-in-Quoted
-hint-requires-in-Quoted c = (in-book-both (goal.at.hint-requires-in-Quoted c).In-Quoted-2).0
+hint-requires-in-Quoted c = (in-book-both (goal.at.hint-requires-in-Quoted c).In-Quoted).0
 
 pub hint-requires-in-Quoted-2 : goal.hint-requires-in-Quoted-2
-hint-requires-in-Quoted-2 c = (in-book-both (goal.at.hint-requires-in-Quoted-2 c).In-Quoted-2).1
+hint-requires-in-Quoted-2 c = (in-book-both (goal.at.hint-requires-in-Quoted-2 c).In-Quoted).1
 
 pub quote_hint-requires : goal.quote_hint-requires
-quote_hint-requires c = (in-book-both (goal.at.quote_hint-requires c).In-Quoted-2).0
+quote_hint-requires c = (in-book-both (goal.at.quote_hint-requires c).In-Quoted).0
 
 pub quote_hint-requires-in-Quoted : goal.quote_hint-requires-in-Quoted
-quote_hint-requires-in-Quoted c = (in-book-both (goal.at.quote_hint-requires-in-Quoted c).In-Quoted-2).1
+quote_hint-requires-in-Quoted c = (in-book-both (goal.at.quote_hint-requires-in-Quoted c).In-Quoted).1
 
 pub loop-record-smaller-in-Quoted : goal.loop-record-smaller-in-Quoted
 loop-record-smaller-in-Quoted c = let f = onward (goal.at.loop-record-smaller-in-Quoted c).In-Record in omega (arith, f.0, f.1)

@@ -1,6 +1,5 @@
 use mathlib.Core.Path.{◌∙◌, sym, refl}
-use Rattle.terms.specs.Made.{order-made}
-use borrow.Author.Rules.{rules}
+use Rattle.terms.proofs.Made.{order-made}
 use Rattle.terms.proofs.orders.Order.new.Goals as goal
 
 pub returns-in_default : goal.returns-in_default

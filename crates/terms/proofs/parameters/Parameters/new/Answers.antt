@@ -1,7 +1,5 @@
 use mathlib.Core.Path.{◌∙◌, sym, refl}
-use Rattle.terms.specs.Made.{no_table, refused-price, off-step, on_step_lem}
-use borrow.Author.Tests.{not-true, not-false}
-use borrow.Author.Rules.{rules}
+use Rattle.terms.proofs.Made.{no_table, refused-price, off-step, on_step_lem}
 use Rattle.terms.proofs.parameters.Parameters.new.Goals as goal
 
 pub returns-then-not-holds : goal.returns-then-not-holds

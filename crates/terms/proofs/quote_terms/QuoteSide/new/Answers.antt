@@ -1,6 +1,5 @@
 use mathlib.Core.Path.{◌∙◌, sym, refl}
-use Rattle.terms.specs.Made.{quote-side-made}
-use borrow.Author.Rules.{rules}
+use Rattle.terms.proofs.Made.{quote-side-made}
 use Rattle.terms.proofs.quote_terms.QuoteSide.new.Goals as goal
 
 pub returns-in_default : goal.returns-in_default

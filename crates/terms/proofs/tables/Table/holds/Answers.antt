@@ -1,5 +1,4 @@
-use Rattle.terms.specs.TableLaws.{table-holds}
-use borrow.Author.Rules.{rules}
+use Rattle.terms.proofs.TableLaws.{table-holds}
 use Rattle.terms.proofs.tables.Table.holds.Goals as goal
 
 pub returns : goal.returns

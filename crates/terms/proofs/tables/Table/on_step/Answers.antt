@@ -1,5 +1,4 @@
 use Rattle.terms.specs.Tables.{on_step}
-use borrow.Author.Rules.{rules}
 use Rattle.terms.proofs.tables.Table.on_step.Goals as goal
 
 pub returns : goal.returns

@@ -1,6 +1,5 @@
-use Rattle.terms.specs.TableLaws.{all-counted, row-of-all}
+use Rattle.terms.proofs.TableLaws.{all-counted, row-of-all}
 use Rattle.terms.specs.Tables.{row_of}
-use borrow.Author.Rules.{rules}
 use Rattle.terms.proofs.tables.Table.row_of.Goals as goal
 
 pub returns-then-count-eq0 : goal.returns-then-count-eq0

@@ -6,15 +6,17 @@ use Rattle.terms.specs.Kinds.{is_price}
 use Rattle.terms.specs.Orders.{auction_from}
 use Rattle.terms.specs.declared.kinds.{Price.Price}
 use Rattle.terms.specs.declared.orders.{Auction.Auction, Auction.TheVariants.Opening, Auction.TheVariants.Closing}
-use Rattle.queue.specs.Part.{taking_part-elim}
-use Rattle.queue.specs.Reach.{resting-sound}
+use Rattle.queue.proofs.Part.{taking_part-elim}
+use Rattle.queue.proofs.Reach.{resting-sound}
 use Rattle.book.specs.Changed.{changed-book-sound}
 use Rattle.book.specs.Resting.{resting, changed}
-use Rattle.price.specs.Legal.{price-legal}
+use Rattle.price.proofs.Legal.{price-legal}
 use Rattle.trades.specs.declared.{Trade.Trade}
 use Rattle.auction.specs.declared.{Outcome.Outcome, Outcome.TheVariants.Traded, Outcome.TheVariants.NoTrade, Outcome.TheVariants.NonOpening, Outcome.TheVariants.Delayed}
-use Rattle.auction.specs.Outcome.{trades, outcome-traded}
-use Rattle.auction.specs.After.{rest_of, rest-keeps}
+use Rattle.auction.specs.Outcome.{trades}
+use Rattle.auction.proofs.OutcomeLaws.{outcome-traded}
+use Rattle.auction.specs.After.{rest_of}
+use Rattle.auction.proofs.AfterLaws.{rest-keeps}
 use Rattle.controls.specs.declared.phases.{Phase.TheVariants.Fresh}
 use Rattle.session.specs.declared.{Session.Session}
 use Rattle.controls.specs.Phases.{has_started, phase_after}

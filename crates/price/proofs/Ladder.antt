@@ -10,10 +10,13 @@ use Rattle.terms.specs.Orders.{Resting}
 use Rattle.terms.specs.declared.orders.{Side.Side}
 use Rattle.queue.specs.Sides.{allows}
 use Rattle.queue.specs.Distinct.{Distinct}
-use Rattle.fills.specs.Fill.{none_pass, FrontPart, ranked-front}
-use Rattle.queue.specs.Rank.{on_side, ranked, ranked-sum, ranked-in-order}
+use Rattle.fills.specs.Fill.{FrontPart}
+use Rattle.fills.proofs.Fill.{none_pass, ranked-front}
+use Rattle.queue.specs.Rank.{on_side, ranked}
+use Rattle.queue.proofs.Rank.{ranked-sum, ranked-in-order}
 use Rattle.queue.specs.RankNumbers.{rank_bound, place_of_rank}
-use Rattle.price.specs.Interest.{interest, allows-ahead}
+use Rattle.price.specs.Interest.{interest}
+use Rattle.price.proofs.Interest.{allows-ahead}
 use Rattle.price.specs.Search.{sum_below, offered}
 
 -- What the orders with ranks below the bound have open, where they are those that pass the test.

@@ -10,7 +10,7 @@ use Rattle.lists.specs.Sums.{◌∈◌, counted, sum-none}
 use Rattle.terms.specs.Bounds.{places}
 use Rattle.terms.specs.Orders.{Resting, validity_from}
 use Rattle.terms.specs.declared.orders.{Side.Side, Side.TheVariants.Buy, Side.TheVariants.Sell, Auction.Auction}
-use Rattle.terms.specs.Sides.{same_side-eq}
+use Rattle.terms.proofs.Sides.{same_side-eq}
 use Rattle.book.specs.declared.Book.{Book}
 use Rattle.book.specs.declared.Values.{Values}
 use Rattle.places.specs.Places.{is_taken, behind_taken}
@@ -20,21 +20,27 @@ use Rattle.book.specs.Resting.{resting, changed}
 use Rattle.book.specs.ByPlace.{resting-elim}
 use Rattle.book.specs.Sound.{SoundBook}
 use Rattle.book.specs.Settling.{settled_to, rest_from, settled-changed}
-use Rattle.queue.specs.Part.{taking_part, taking_part-elim, taking_part-distinct}
+use Rattle.queue.specs.Part.{taking_part}
+use Rattle.queue.proofs.Part.{taking_part-elim, taking_part-distinct}
 use Rattle.queue.specs.Distinct.{Distinct}
-use Rattle.queue.specs.Rank.{ranked, ranked-elim}
+use Rattle.queue.specs.Rank.{ranked}
+use Rattle.queue.proofs.Rank.{ranked-elim}
 use Rattle.queue.specs.RankNumbers.{number_room, place_of_rank, along}
-use Rattle.queue.specs.Reach.{resting-distinct}
-use Rattle.queue.specs.Queue.{ranks-known, ranked-by-ranks}
-use Rattle.fills.specs.Fill.{Fill, fill, filled_by, has_number, fill-all}
+use Rattle.queue.proofs.Reach.{resting-distinct}
+use Rattle.queue.proofs.Queue.{ranks-known, ranked-by-ranks}
+use Rattle.fills.specs.Fill.{Fill, fill, filled_by, has_number}
+use Rattle.fills.proofs.Fill.{fill-all}
 use Rattle.fills.specs.Shares.{shares_of, lessened}
-use Rattle.fills.specs.ShareFills.{shares-fill, fill-orders, shared_at, lessened-at, lessened-length, shared-at-fill}
+use Rattle.fills.specs.ShareFills.{shared_at}
+use Rattle.fills.proofs.ShareFills.{shares-fill, fill-orders, lessened-at, lessened-length, shared-at-fill}
 use Rattle.price.specs.Interest.{interest}
 use Rattle.trades.specs.Trades.{traded}
-use Rattle.trades.specs.TradesOf.{fills, trades_of, trades-filled}
+use Rattle.trades.specs.TradesOf.{fills, trades_of}
+use Rattle.trades.proofs.TradesOf.{trades-filled}
 use Rattle.auction.specs.After.{ends, rest_of}
-use Rattle.trades.specs.OverShares.{share-pairs}
-use Rattle.auction.specs.Ended.{rest_with, ended_at, rest_from_lem}
+use Rattle.trades.proofs.OverShares.{share-pairs}
+use Rattle.auction.specs.Ended.{rest_with}
+use Rattle.auction.proofs.Ended.{ended_at, rest_from_lem}
 use Rattle.auction.specs.Trading.{ranks_on, shares_in, trades_in, left_in, rests_in}
 
 front-map : {A B : Type 0} (f : A → B) (n : ℕ) (xs : List A) → take n (map f xs) ≡ map f (take n xs)

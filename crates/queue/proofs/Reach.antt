@@ -15,7 +15,8 @@ use Rattle.book.specs.Columns.{order_at}
 use Rattle.book.specs.Resting.{resting_to, resting}
 use Rattle.book.specs.ByPlace.{resting-elim}
 use Rattle.book.specs.Sound.{SoundOrder, SoundBook}
-use Rattle.queue.specs.Distinct.{Distinct, distinct_snoc}
+use Rattle.queue.specs.Distinct.{Distinct}
+use Rattle.queue.proofs.Distinct.{distinct_snoc}
 
 module _ (legal : ℕ → Bool) (given : ℕ) (b : Book) (sound : SoundBook legal given b) where
   -- every resting order may rest

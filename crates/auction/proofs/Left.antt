@@ -6,13 +6,14 @@ use Rattle.lists.specs.Tests.{and_both}
 use Rattle.lists.specs.Sums.{◌∈◌, counted, sum_less, sum-map, sum_same}
 use Rattle.terms.specs.Orders.{Resting}
 use Rattle.terms.specs.declared.orders.{Side.Side, Side.TheVariants.Buy, Side.TheVariants.Sell}
-use Rattle.terms.specs.Sides.{same_side-eq}
+use Rattle.terms.proofs.Sides.{same_side-eq}
 use Rattle.queue.specs.Sides.{allows}
 use Rattle.queue.specs.Distinct.{Distinct}
 use Rattle.queue.specs.Rank.{on_side}
 use Rattle.price.specs.Interest.{accepts, interest, executable}
 use Rattle.trades.specs.Trades.{traded}
-use Rattle.trades.specs.TradesOf.{trades_of, allows-front, traded-front, trades-possible}
+use Rattle.trades.specs.TradesOf.{trades_of}
+use Rattle.trades.proofs.TradesOf.{allows-front, traded-front, trades-possible}
 use Rattle.auction.specs.After.{remaining}
 
 module _ (p quantity : ℕ) (book : List Resting) (d : Distinct book) (enough : (s : Side) → quantity ≤ interest s p book) where

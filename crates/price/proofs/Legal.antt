@@ -7,7 +7,8 @@ use Rattle.terms.specs.Orders.{Resting, is_legal}
 use Rattle.terms.specs.declared.kinds.{Price.Price}
 use Rattle.terms.specs.declared.orders.{Limit.Limit, Limit.TheVariants.Unlimited, Limit.TheVariants.At}
 use Rattle.price.specs.Candidates.{add_limit, limits, candidates}
-use Rattle.price.specs.Chain.{auction_price, price-candidate}
+use Rattle.price.specs.Chain.{auction_price}
+use Rattle.price.proofs.Chain.{price-candidate}
 
 limits-all : (P : ℕ → Type 0) (ask : Limit → Type 0) → ((p : Price) → ask (At p) → P p.0) → (book : List Resting) → ((o : Resting) → o ∈ book → ask o.limit) → (p : ℕ) → p ∈ limits book → P p
 limits-all P ask told [] h p m = absurd (Memᴰ.not-nil m)

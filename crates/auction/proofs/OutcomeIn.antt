@@ -13,23 +13,25 @@ use Rattle.book.specs.Columns.{order_at}
 use Rattle.book.specs.Resting.{resting}
 use Rattle.book.specs.Sound.{SoundBook}
 use Rattle.queue.specs.Sides.{is_unlimited}
-use Rattle.queue.specs.Part.{taking_part, taking_part-elim, taking_part-distinct}
+use Rattle.queue.specs.Part.{taking_part}
+use Rattle.queue.proofs.Part.{taking_part-elim, taking_part-distinct}
 use Rattle.queue.specs.Distinct.{Distinct}
-use Rattle.queue.specs.Rank.{on_side, ranked, ranked-elim, ranked-intro}
+use Rattle.queue.specs.Rank.{on_side, ranked}
+use Rattle.queue.proofs.Rank.{ranked-elim, ranked-intro}
 use Rattle.queue.specs.RankNumbers.{limit_room, number_room, place_of_rank, rank_bound, along}
-use Rattle.queue.specs.Reach.{resting-sound, resting-distinct}
-use Rattle.queue.specs.Queue.{price-room, allows-below, unlimited-below, ranks-known, ranked-by-ranks}
+use Rattle.queue.proofs.Reach.{resting-sound, resting-distinct}
+use Rattle.queue.proofs.Queue.{price-room, allows-below, unlimited-below, ranks-known, ranked-by-ranks}
 use Rattle.price.specs.declared.search.{Found.Found}
 use Rattle.price.specs.Interest.{interest, demand, supply}
 use Rattle.price.specs.Candidates.{add_limit, limits, candidates, most_executable}
 use Rattle.price.specs.Chain.{auction_price}
 use Rattle.price.specs.Search.{offered, searched_in}
-use Rattle.price.specs.Ladder.{sum-below-front, offered-is-interest}
-use Rattle.price.specs.SearchFinds.{searched-most, searched-price}
-use Rattle.trades.specs.TradesOf.{queue-left}
-use Rattle.auction.specs.NonOpening.{unlimited-front}
+use Rattle.price.proofs.Ladder.{sum-below-front, offered-is-interest}
+use Rattle.price.proofs.SearchFinds.{searched-most, searched-price}
+use Rattle.trades.proofs.TradesOf.{queue-left}
+use Rattle.auction.proofs.NonOpening.{unlimited-front}
 use Rattle.auction.specs.Outcome.{Held, unlimited, outcome}
-use Rattle.auction.specs.Decided.{decided}
+use Rattle.auction.proofs.Decided.{decided}
 use Rattle.auction.specs.Trading.{ranks_on, unlimited_in, outcome_in}
 
 number-from : (l : ℕ) → l ≡ limit_number (limit_from l)

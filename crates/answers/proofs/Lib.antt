@@ -1,0 +1,2 @@
+pub mod AuctionCalls
+pub mod SoundAfter

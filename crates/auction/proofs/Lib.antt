@@ -1,0 +1,11 @@
+pub mod AfterLaws
+pub mod Composed
+pub mod Decided
+pub mod Ended
+pub mod Examples
+pub mod Left
+pub mod NonOpening
+pub mod OutcomeLaws
+pub mod OutcomeIn
+pub mod TradesIn
+pub mod TradingLaws

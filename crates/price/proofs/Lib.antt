@@ -1,0 +1,9 @@
+pub mod Candidates
+pub mod Chain
+pub mod Clause7
+pub mod Examples
+pub mod Interest
+pub mod Ladder
+pub mod Legal
+pub mod SearchFinds
+pub mod Weighing

@@ -1,0 +1,9 @@
+pub mod Distinct
+pub mod Examples
+pub mod Keys
+pub mod Part
+pub mod Placing
+pub mod Queue
+pub mod Rank
+pub mod Reach
+pub mod Sides

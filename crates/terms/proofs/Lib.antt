@@ -1,0 +1,4 @@
+pub mod Made
+pub mod Sides
+pub mod TableExamples
+pub mod TableLaws
