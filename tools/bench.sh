@@ -4,7 +4,7 @@
 cd "$(dirname "$0")/.." || exit 1
 dir=$(mktemp -d) || exit 1
 trap 'rm -rf "$dir"' EXIT
-rt check entry_cost auction_cost desk_cost replay >"$dir/log" 2>&1 || {
+sh tools/build.sh entry_cost auction_cost desk_cost replay >"$dir/log" 2>&1 || {
     tail -n 20 "$dir/log" >&2
     exit 1
 }

@@ -8,7 +8,7 @@ fail() {
 command -v git >/dev/null || fail "no git on the PATH"
 programs=$(. tools/facts.sh && echo "$programs")
 for name in $programs; do
-    [ -f "target/bin/$name" ] || fail "no target/bin/$name: run rt check $name"
+    [ -f "target/bin/$name" ] || fail "no target/bin/$name: run sh tools/build.sh $name"
 done
 dir=$(mktemp -d) || exit 1
 trap 'rm -rf "$dir"' EXIT

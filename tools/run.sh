@@ -29,24 +29,21 @@ crates=$(. tools/facts.sh && below "$program")
 # The crates' folders, of which must-fail/ is no part of the program.
 # shellcheck disable=SC2046
 stale() {
-    [ ! -x "$built" ] || [ -n "$(find $(echo "$crates" | sed 's,^,crates/,') crates.txt -name must-fail -prune -o -newer "$built" -print)" ]
+    [ ! -x "$built" ] || [ -n "$(find $(echo "$crates" | sed 's,^,crates/,') crates.txt \( -name must-fail -o -name out \) -prune -o -newer "$built" -print)" ]
 }
-# Minutes of silence would look like a program that hangs: how far it is, on standard error. A crate that was proved before has no line.
+# Minutes of silence would look like a program that hangs: what is being proved, on standard error. A crate that was proved before has no line.
 told() {
-    all=$(echo "$crates" | wc -l)
-    n=0
     while IFS= read -r line; do
-        case $line in 'rt: '*' proved ('*) n=$((n + 1)) ;; *) continue ;; esac
-        case $line in *'(unchanged'*) ;; *) say "${line#rt: }, $n of $((all))" ;; esac
+        case $line in 'rt: chose --jobs '*' for '*) say "${line##* for }" ;; esac
     done
 }
 if stale; then
     say "$built is not there or older than its crates: they are proved and it is built, which may take some minutes"
     # what stands on standard input is the program's
-    { rt check "$program" 2>&1 </dev/null; echo $? >"$dir/status"; } | tee "$dir/log" | told
+    { sh tools/build.sh "$program" 2>&1 </dev/null; echo $? >"$dir/status"; } | tee "$dir/log" | told
     [ "$(cat "$dir/status")" -eq 0 ] || {
         tail -n 20 "$dir/log" >&2
-        fail "the program can't be built: rt check $program"
+        fail "the program can't be built: sh tools/build.sh $program"
     }
     [ -x "$built" ] || fail "all is proved and there is no $built: remove target/ and run this again"
     # Where nothing but a file's time had changed it is the program still: nothing is asked or said the next time.

@@ -3,7 +3,7 @@
 # byte by byte; has each rewritten (K1); and holds the files to tools/samples.py, which makes them and their README.
 cd "$(dirname "$0")/.." || exit 1
 for name in replay rewrite clearing; do
-    [ -x "target/bin/$name" ] || { echo "samples: no program target/bin/$name: rt check $name builds it"; exit 1; }
+    [ -x "target/bin/$name" ] || { echo "samples: no program target/bin/$name: sh tools/build.sh $name builds it"; exit 1; }
 done
 # shellcheck source=tools/x86.sh
 . tools/x86.sh

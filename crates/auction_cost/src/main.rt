@@ -8,7 +8,7 @@ ghost use Rattle.session.specs.Sound.{Sound};
 ghost use Rattle.terms.specs.Bounds.{trade_list_length};
 
 use calls::{AuctionAnswer, Session};
-use libc::{STDIN_FILENO, STDOUT_FILENO};
+use std::io::Read;
 use terms::{Auction, DelayThreshold, Entry, OneStep, Side, Validity};
 
 const REFERENCE: u32 = 100_000;
@@ -186,24 +186,24 @@ fn sum(numbers: &[u32]) -> u64
     total
 }
 
-fn put_number(n: u64) {
-    io::print_decimal(STDOUT_FILENO, n);
-    io::write_all(STDOUT_FILENO, b"\n");
+// A write that fails is passed over.
+fn put_number(rt: &impl Print, n: u64) {
+    let _ = println!(rt; "{n}");
 }
 
 // What the call answered, the list and the book are all read at the end: a compiler drops what nobody reads.
-fn main() {
+fn main(rt: HostRuntime) {
     let mut bytes = [0u8; 3];
-    libc::read(STDIN_FILENO, &mut bytes);
+    let _ = rt.reader().read(&mut bytes);
     let session = filled(size_of(bytes[0]), bytes[1]);
     let mut list = [0u32; Session::TRADE_LIST];
     let last = one_more(session, bytes[2], &mut list);
     let r = last.result;
-    put_number(r.outcome as u64);
-    put_number(r.price as u64);
-    put_number(r.quantity);
-    put_number(r.count as u64);
-    put_number(sum(&list));
+    put_number(&rt, r.outcome as u64);
+    put_number(&rt, r.price as u64);
+    put_number(&rt, r.quantity);
+    put_number(&rt, r.count as u64);
+    put_number(&rt, sum(&list));
     let book = last.session.book;
-    put_number(sum(&book.left));
+    put_number(&rt, sum(&book.left));
 }

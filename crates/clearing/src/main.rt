@@ -10,28 +10,31 @@ ghost use Rattle.desk_steps.specs.Steps.{Reached};
 use desk::Desk;
 use desk_steps::carried_out;
 use feed::{Held, read_behind};
-use libc::{STDERR_FILENO, STDOUT_FILENO};
 use owing::owed_lines;
 use session::Session;
 use telling::last_lines;
 use transcript::{Next, Stop, next_told};
 
+// Of the input and of the output each, in bytes.
+const BUFFER: usize = 65_536;
+
 // A loop must end and nothing says that an input does: there are never more turns than bytes and reads.
 const MOST_TURNS: u64 = 1_099_511_627_776;
 
+fn say(errors: &impl Print, line: &[u8]) {
+    let _ = errors.write_all(line);
+}
+
 // What was gathered goes to standard output.
-fn print(text: &[u8]) {
-    let is_written = io::write_all(STDOUT_FILENO, text);
+fn print(rt: &impl Print, errors: &impl Print, text: &[u8]) {
+    let is_written = rt.write_all(text).is_ok();
     if !is_written {
-        io::write_all(
-            STDERR_FILENO,
-            b"clearing: standard output can't be written\n",
-        );
+        say(errors, b"clearing: standard output can't be written\n");
     }
 }
 
 // The records one by one, to the input's end or to a fault; the desk then.
-fn walk(input: &mut [u8], out: &mut [u8]) -> Desk
+fn walk(rt: &(impl Input + Print), errors: &impl Print, input: &mut [u8], out: &mut [u8]) -> Desk
     requires { (length input.old ≡ length_bound) × (record_room ≤ length out.old) }
     ensures { Reached result }
 {
@@ -57,12 +60,14 @@ fn walk(input: &mut [u8], out: &mut [u8]) -> Desk
             }
             Next::Stop(stop) => match stop {
                 Stop::Full => {
-                    print(&out[..at]);
+                    print(rt, errors, &out[..at]);
                     at = 0;
                 }
                 Stop::Waits => {
                     // It holds fewer bytes than a record can have, so there is room for a read.
                     let held = read_behind(
+                        rt,
+                        errors,
                         input,
                         Held { from, to, ended },
                         b"clearing: standard input can't be read further; it is taken to end here\n",
@@ -73,29 +78,30 @@ fn walk(input: &mut [u8], out: &mut [u8]) -> Desk
                 }
                 Stop::Fault => {
                     let end = last_lines(out, at, count, stop);
-                    print(&out[..end]);
+                    print(rt, errors, &out[..end]);
                     return desk;
                 }
                 Stop::End => {
                     let end = last_lines(out, at, count, stop);
-                    print(&out[..end]);
+                    print(rt, errors, &out[..end]);
                     return desk;
                 }
             },
         }
     }
-    print(&out[..at]);
-    io::write_all(
-        STDERR_FILENO,
+    print(rt, errors, &out[..at]);
+    say(
+        errors,
         b"clearing: the run's turns are used up; what follows is not told\n",
     );
     desk
 }
 
-fn main() {
-    let mut input = io::large_buffer();
-    let mut output = io::large_buffer();
-    let desk = walk(&mut input, &mut output);
+fn main(rt: HostRuntime) {
+    let errors = rt.stderr();
+    let mut input = [0u8; BUFFER];
+    let mut output = [0u8; BUFFER];
+    let desk = walk(&rt, &errors, &mut input, &mut output);
     let end = owed_lines(&mut output, 0, desk);
-    print(&output[..end]);
+    print(&rt, &errors, &output[..end]);
 }

@@ -9,9 +9,9 @@ ghost use Rattle.desk.specs.Sound.{SoundDesk};
 
 use courses::AuctionAnswer;
 use desk::Desk;
-use libc::{STDIN_FILENO, STDOUT_FILENO};
 use session::Session;
 use squares::CELLS;
+use std::io::Read;
 use terms::{Auction, DelayThreshold, Entry, OneStep, QuoteEntry, Side, SideEntry, Validity};
 
 const REFERENCE: u32 = 100_000;
@@ -220,7 +220,7 @@ fn sum(numbers: &[u32]) -> u64 {
     let mut total: u64 = 0;
     let mut i: usize = 0;
     while i < numbers.len() {
-        total = std::num::wrapping_add_u64(total, wide(numbers[i]));
+        total = total.wrapping_add(wide(numbers[i]));
         i += 1;
     }
     total
@@ -230,48 +230,48 @@ fn sum_of_cells(cells: &[u64; CELLS]) -> u64 {
     let mut total: u64 = 0;
     let mut i: usize = 0;
     while i < CELLS {
-        total = std::num::wrapping_add_u64(total, cells[i]);
+        total = total.wrapping_add(cells[i]);
         i += 1;
     }
     total
 }
 
-fn put_number(n: u64) {
-    io::print_decimal(STDOUT_FILENO, n);
-    io::write_all(STDOUT_FILENO, b"\n");
+// A write that fails is passed over.
+fn put_number(rt: &impl Print, n: u64) {
+    let _ = println!(rt; "{n}");
 }
 
-fn put_answer(answer: u8, r: AuctionAnswer) {
-    put_number(answer as u64);
-    put_number(r.outcome as u64);
-    put_number(r.price as u64);
-    put_number(r.quantity);
-    put_number(r.count as u64);
+fn put_answer(rt: &impl Print, answer: u8, r: AuctionAnswer) {
+    put_number(rt, answer as u64);
+    put_number(rt, r.outcome as u64);
+    put_number(rt, r.price as u64);
+    put_number(rt, r.quantity);
+    put_number(rt, r.count as u64);
 }
 
-fn put_desk(desk: Desk) {
+fn put_desk(rt: &impl Print, desk: Desk) {
     let book = desk.session.book;
-    put_number(sum(&book.left));
+    put_number(rt, sum(&book.left));
     let totals = desk.totals;
-    put_number(sum_of_cells(&totals));
+    put_number(rt, sum_of_cells(&totals));
 }
 
 // What the call answered, the list, the book and the cells are all read at the end: a compiler drops what nobody reads.
-fn put_call(book: u8, orders: u8, call: u8) {
+fn put_call(rt: &impl Print, book: u8, orders: u8, call: u8) {
     let mut list = [0u32; Session::TRADE_LIST];
     let desk = filled(size_of(book), orders);
     let seen = cell(desk, call, book);
     let last = one_more(desk, call, &mut list);
     let result = last.result;
-    put_answer(last.answer, result);
-    put_number(sum(&list));
+    put_answer(rt, last.answer, result);
+    put_number(rt, sum(&list));
     let after = last.desk;
-    put_desk(after);
-    put_number(seen);
+    put_desk(rt, after);
+    put_number(rt, seen);
 }
 
-fn main() {
+fn main(rt: HostRuntime) {
     let mut bytes = [0u8; 3];
-    libc::read(STDIN_FILENO, &mut bytes);
-    put_call(bytes[0], bytes[1], bytes[2]);
+    let _ = rt.reader().read(&mut bytes);
+    put_call(&rt, bytes[0], bytes[1], bytes[2]);
 }

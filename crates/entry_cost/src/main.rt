@@ -7,7 +7,7 @@ ghost use Rattle.std.specs.Prelude.{◌≤◌};
 ghost use Rattle.session.specs.Sound.{Sound};
 
 use calls::Session;
-use libc::{STDIN_FILENO, STDOUT_FILENO};
+use std::io::Read;
 use terms::{Entry, OneStep, Place, QuoteEntry, Side, SideEntry, Validity};
 
 const ORDERS: u32 = 509;
@@ -125,14 +125,13 @@ fn open_quantity(left: &[u32; Place::COUNT]) -> u64 {
     sum
 }
 
-// The book is read at the end: a compiler drops what nobody reads.
-fn main() {
+// The book is read at the end: a compiler drops what nobody reads. A write that fails is passed over.
+fn main(rt: HostRuntime) {
     let mut byte = [0u8; 1];
-    libc::read(STDIN_FILENO, &mut byte);
+    let _ = rt.reader().read(&mut byte);
     let last = one_more(filled(), byte[0]);
+    let answer = last.answer;
     let book = last.session.book;
-    io::print_decimal(STDOUT_FILENO, last.answer as u64);
-    io::write_all(STDOUT_FILENO, &[b' ']);
-    io::print_decimal(STDOUT_FILENO, open_quantity(&book.left));
-    io::write_all(STDOUT_FILENO, &[b'\n']);
+    let quantity = open_quantity(&book.left);
+    let _ = println!(rt; "{answer} {quantity}");
 }

@@ -3,7 +3,11 @@ use Rattle.std.specs.Prelude.{ℕ, ◌+◌, ◌-◌, ◌≤◌, ◌<◌, Bool, �
 use Rattle.std.proofs.Common.{sym, ap, ◌∙◌, arith, length-drop, length-take-le, drop_at, take-add, drop-drop}
 use Rattle.std.proofs.Math.Seq.{take-append-add}
 use Rattle.std.proofs.lemmas.List.{take-append-le}
-use Rattle.feed.specs.declared.{Held.Held}
+use Rattle.feed.specs.declared.Held.{Held}
+
+-- so many bytes or numbers stand at the front of these
+abbrev pub IsFront : ℕ → List ℕ → Type 0
+IsFront n xs = (n ≤ length xs) × (n ≡ length (take n xs))
 
 -- the bytes held lie in a buffer of this size
 abbrev pub Within : ℕ → Held → Type 0

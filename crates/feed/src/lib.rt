@@ -2,9 +2,9 @@
 #![tactic(auto)]
 
 ghost use Rattle.std.specs.Prelude.{◌≡◌, ◌-◌, ◌≤◌, ◌<◌, length, take, drop};
-ghost use Rattle.feed.specs.HeldBytes.{Within, held_in, ReadBehind};
+ghost use Rattle.feed.specs.HeldBytes.{Within, held_in, ReadBehind, IsFront};
 
-use libc::{STDERR_FILENO, STDIN_FILENO};
+use std::io::Read;
 
 // The bytes of the buffer that are not told yet, and whether more can come.
 #[derive(Clone, Copy)]
@@ -29,27 +29,51 @@ fn moved_to_front(bytes: &mut [u8], from: usize, to: usize) -> usize
 }
 
 // One read into the buffer; how many bytes came. A read that fails ends the input like its end, and the line is said of it.
-fn read_some(bytes: &mut [u8], trouble: &[u8]) -> usize
+fn read_some(rt: &impl Input, errors: &impl Print, bytes: &mut [u8], trouble: &[u8]) -> usize
     requires { 0 < length bytes.old }
     ensures { result ≤ length bytes.old }
 {
-    let got = libc::read(STDIN_FILENO, bytes);
-    if got < 0 {
-        io::write_all(STDERR_FILENO, trouble);
+    match rt.reader().read(bytes) {
+        Ok(count) => count,
+        Err(_) => {
+            let _ = errors.write_all(trouble);
+            0
+        }
     }
-    io::count(got, bytes)
 }
 
-// One read behind the bytes held, which leave room for it.
-pub fn read_behind(input: &mut [u8], held: Held, trouble: &[u8]) -> Held
+// One read behind the bytes held, which leave room for it. The line on a read that fails is written to standard error, as `errors`.
+pub fn read_behind(
+    rt: &impl Input,
+    errors: &impl Print,
+    input: &mut [u8],
+    held: Held,
+    trouble: &[u8],
+) -> Held
     requires { Within (length input.old) held × (held.to - held.from < length input.old) }
     ensures { Within (length input.old) result × ReadBehind (length input.old) (held_in held input.old) (held_in result input.new) result.ended }
 {
     let kept = moved_to_front(input, held.from, held.to);
-    let got = read_some(&mut input[kept..], trouble);
+    let got = read_some(rt, errors, &mut input[kept..], trouble);
     Held {
         from: 0,
         to: kept + got,
         ended: got == 0,
     }
+}
+
+// Read after read from the buffer's front on, until it is full, the input ends or a read fails; how many bytes came.
+pub fn read_full(rt: &impl Input, input: &mut [u8]) -> usize
+    ensures { IsFront result input.new }
+{
+    let mut reader = rt.reader();
+    let mut done: usize = 0;
+    while done < input.len() {
+        let count = reader.read(&mut input[done..]).unwrap_or(0);
+        if count == 0 {
+            break;
+        }
+        done += count;
+    }
+    done
 }

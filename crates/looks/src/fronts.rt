@@ -1,7 +1,7 @@
 // The lines of filled fronts (01 "Outcomes"): asked with what is open of the resting orders, with entries so large that their sums would wrap,
 // and with lists at their bound.
 ghost use Rattle.std.specs.Prelude.{◌≤◌, ◌<◌, length};
-ghost use Rattle.io.specs.Counts.{IsPrefixLen};
+ghost use Rattle.feed.specs.HeldBytes.{IsFront};
 ghost use Rattle.session.specs.Sound.{Sound};
 ghost use Rattle.terms.specs.Bounds.{places};
 
@@ -60,7 +60,7 @@ fn sum(quantities: &[u32]) -> u64
 // The quantities as entries, times a power of two; how many they are.
 fn list_entries(list: &mut [u64], quantities: &[u32], bits: u32) -> usize
     requires { (length quantities.now ≤ length list.old) × (bits < 64) }
-    ensures { IsPrefixLen result list.new }
+    ensures { IsFront result list.new }
 {
     let mut i: usize = 0;
     while i < quantities.len() {
@@ -72,6 +72,7 @@ fn list_entries(list: &mut [u64], quantities: &[u32], bits: u32) -> usize
 
 // A front of the side's list, asked with the quantities times a power of two.
 fn front_line(
+    rt: &impl Print,
     out: &mut [u8],
     at: usize,
     buys: &[u32],
@@ -89,7 +90,7 @@ fn front_line(
     let asks = list_entries(&mut sell_entries, sells, bits);
     let r = front_of(&buy_entries[..bids], &sell_entries[..asks], side, total);
     let numbers = [side as u64, total, r.answer as u64, r.length as u64, r.last];
-    put_line(out, at, b"front", &numbers)
+    put_line(rt, out, at, b"front", &numbers)
 }
 
 // The sum of the other side's quantities; for a number that is no side, of the buys'.
@@ -103,24 +104,37 @@ fn total_for(buys: &[u32], sells: &[u32], side: u8) -> u64
 }
 
 // .. of a side: with the quantities and the other side's sum, and with large entries and the largest total.
-fn front_lines_of(out: &mut [u8], at: usize, buys: &[u32], sells: &[u32], side: u8) -> usize
+fn front_lines_of(
+    rt: &impl Print,
+    out: &mut [u8],
+    at: usize,
+    buys: &[u32],
+    sells: &[u32],
+    side: u8,
+) -> usize
     requires { (at ≤ length out.old) × (length buys.now ≤ places) × (length sells.now ≤ places) }
     ensures { result ≤ length out.old }
 {
     let total = total_for(buys, sells, side);
-    let p = front_line(out, at, buys, sells, 0, side, total);
-    front_line(out, p, buys, sells, LARGE_BITS, side, LARGEST_TOTAL)
+    let p = front_line(rt, out, at, buys, sells, 0, side, total);
+    front_line(rt, out, p, buys, sells, LARGE_BITS, side, LARGEST_TOTAL)
 }
 
 // .. of each side.
-fn front_lines_with(out: &mut [u8], at: usize, buys: &[u32], sells: &[u32]) -> usize
+fn front_lines_with(
+    rt: &impl Print,
+    out: &mut [u8],
+    at: usize,
+    buys: &[u32],
+    sells: &[u32],
+) -> usize
     requires { (at ≤ length out.old) × (length buys.now ≤ places) × (length sells.now ≤ places) }
     ensures { result ≤ length out.old }
 {
     let mut end = at;
     let mut side: u8 = 0;
     while side < ASKED {
-        end = front_lines_of(out, end, buys, sells, side);
+        end = front_lines_of(rt, out, end, buys, sells, side);
         side += 1;
     }
     end
@@ -150,7 +164,7 @@ fn list_left<'a>(
     left: &'a [u32; Place::COUNT],
 ) -> usize
     requires { length queue.now ≤ length list.old }
-    ensures { IsPrefixLen result list.new }
+    ensures { IsFront result list.new }
 {
     let mut i: usize = 0;
     while i < queue.len() {
@@ -163,7 +177,7 @@ fn list_left<'a>(
 // The open quantities of a side in rank order, and how many they are. Every resting order takes part in the closing.
 fn list_open(list: &mut [u32], session: Session, side: u8) -> usize
     requires { Sound session × (places ≤ length list.old) }
-    ensures { IsPrefixLen result list.new }
+    ensures { IsFront result list.new }
 {
     let mut queue = [0u32; Session::QUEUE_LIST];
     let r = queue_of(session, side, Auction::CLOSING, &mut queue);
@@ -177,7 +191,7 @@ fn list_open(list: &mut [u32], session: Session, side: u8) -> usize
 }
 
 // The filled fronts of the resting orders.
-pub(crate) fn front_lines(out: &mut [u8], at: usize, session: Session) -> usize
+pub(crate) fn front_lines(rt: &impl Print, out: &mut [u8], at: usize, session: Session) -> usize
     requires { Sound session × (at ≤ length out.old) }
     ensures { result ≤ length out.old }
 {
@@ -185,27 +199,33 @@ pub(crate) fn front_lines(out: &mut [u8], at: usize, session: Session) -> usize
     let mut sells = [0u32; Place::COUNT];
     let bids = list_open(&mut buys, session, Side::BUY);
     let asks = list_open(&mut sells, session, Side::SELL);
-    front_lines_with(out, at, &buys[..bids], &sells[..asks])
+    front_lines_with(rt, out, at, &buys[..bids], &sells[..asks])
 }
 
 // A front of the buys alone, whatever the lists hold.
-fn long_line<'a>(out: &mut [u8], at: usize, buys: &'a [u64], sells: &'a [u64]) -> usize
+fn long_line<'a>(
+    rt: &impl Print,
+    out: &mut [u8],
+    at: usize,
+    buys: &'a [u64],
+    sells: &'a [u64],
+) -> usize
     requires { at ≤ length out.old }
     ensures { result ≤ length out.old }
 {
     let r = front_of(buys, sells, Side::BUY, ONES_TOTAL);
     let numbers = [r.answer as u64, r.length as u64];
-    put_line(out, at, b"long", &numbers)
+    put_line(rt, out, at, b"long", &numbers)
 }
 
 // Lists of as many ones as each may have, and either list with one more, which is refused.
-pub(crate) fn long_lines(out: &mut [u8], at: usize) -> usize
+pub(crate) fn long_lines(rt: &impl Print, out: &mut [u8], at: usize) -> usize
     requires { at ≤ length out.old }
     ensures { result ≤ length out.old }
 {
     let full = [1u64; Place::COUNT];
     let long = [1u64; Place::COUNT + 1];
-    let p = long_line(out, at, &full, &full);
-    let q = long_line(out, p, &long, &full[..0]);
-    long_line(out, q, &full[..0], &long)
+    let p = long_line(rt, out, at, &full, &full);
+    let q = long_line(rt, out, p, &long, &full[..0]);
+    long_line(rt, out, q, &full[..0], &long)
 }

@@ -10,33 +10,36 @@ ghost use Rattle.std.specs.Prelude.{◌+◌, ◌<◌, ◌^◌};
 ghost use Rattle.session.specs.Sound.{Sound};
 
 use calls::Session;
+use feed::read_full;
 use fronts::{front_lines, long_lines};
-use libc::STDIN_FILENO;
 use queues::{ranked_lines, short_lines, theoretical_lines};
 use records::{Deletion, Piece, Record, read_at};
 use shown::{put_line, show};
 use terms::{Entry, QuoteEntry, Start};
 
+// The longest file that is read.
+const FILE: usize = 65_536;
+
 // What the calls answer before the record at this place, counted from 1.
-fn look(out: &mut [u8], session: Session, place: u64)
+fn look(rt: &impl Print, out: &mut [u8], session: Session, place: u64)
     requires { Sound session }
 {
     let numbers = [place];
-    let p = put_line(out, 0, b"look", &numbers);
-    let q = theoretical_lines(out, p, session);
-    let r = ranked_lines(out, q, session);
-    let s = short_lines(out, r, session);
-    let t = front_lines(out, s, session);
-    let end = long_lines(out, t);
-    show(out, end);
+    let p = put_line(rt, out, 0, b"look", &numbers);
+    let q = theoretical_lines(rt, out, p, session);
+    let r = ranked_lines(rt, out, q, session);
+    let s = short_lines(rt, out, r, session);
+    let t = front_lines(rt, out, s, session);
+    let end = long_lines(rt, out, t);
+    show(rt, out, end);
 }
 
 // A look comes before an auction, whatever its byte is.
-fn look_before(out: &mut [u8], session: Session, record: Record, place: u64)
+fn look_before(rt: &impl Print, out: &mut [u8], session: Session, record: Record, place: u64)
     requires { Sound session }
 {
     if let Record::Auction(_) = record {
-        look(out, session, place);
+        look(rt, out, session, place);
     }
 }
 
@@ -102,17 +105,17 @@ fn carried_out(session: Session, record: Record) -> Session
 }
 
 // The last look, and how many records were answered.
-fn last_lines(out: &mut [u8], session: Session, answered: u64)
+fn last_lines(rt: &impl Print, out: &mut [u8], session: Session, answered: u64)
     requires { Sound session × (answered + 1 < 2 ^ 64) }
 {
-    look(out, session, answered + 1);
+    look(rt, out, session, answered + 1);
     let numbers = [answered];
-    let end = put_line(out, 0, b"end", &numbers);
-    show(out, end);
+    let end = put_line(rt, out, 0, b"end", &numbers);
+    show(rt, out, end);
 }
 
 // The records of a file one by one, to its end or to a fault. No more bytes will come, so that nothing is waited for.
-fn walk(file: &[u8], out: &mut [u8]) {
+fn walk(rt: &impl Print, file: &[u8], out: &mut [u8]) {
     let mut session = Session::fresh();
     let mut count: u64 = 0;
     let mut place: usize = 0;
@@ -122,12 +125,12 @@ fn walk(file: &[u8], out: &mut [u8]) {
             Piece::Record(record, next) => {
                 count += 1;
                 place = next;
-                look_before(out, session, record, count);
+                look_before(rt, out, session, record, count);
                 let later = carried_out(session, record);
                 session = later;
             }
             _ => {
-                last_lines(out, session, count);
+                last_lines(rt, out, session, count);
                 return;
             }
         }
@@ -135,9 +138,9 @@ fn walk(file: &[u8], out: &mut [u8]) {
 }
 
 // The first 65,536 bytes are the whole file, so that it is read once and fits its buffer.
-fn main() {
-    let mut file = io::large_buffer();
-    let size = io::read_full(STDIN_FILENO, &mut file);
-    let mut out = io::large_buffer();
-    walk(&file[..size], &mut out);
+fn main(rt: HostRuntime) {
+    let mut file = [0u8; FILE];
+    let size = read_full(&rt, &mut file);
+    let mut out = [0u8; FILE];
+    walk(&rt, &file[..size], &mut out);
 }

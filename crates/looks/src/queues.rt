@@ -1,7 +1,7 @@
 // The lines of theoretical answers and of ranked queues (01 "Outcomes"). A side and an auction are 1 or 2; each is asked for with 0 and 3 too,
 // which are refused.
 ghost use Rattle.std.specs.Prelude.{◌≤◌, length};
-ghost use Rattle.io.specs.Counts.{IsPrefixLen};
+ghost use Rattle.feed.specs.HeldBytes.{IsFront};
 ghost use Rattle.session.specs.Sound.{Sound};
 
 use calls::{Queued, Session};
@@ -12,7 +12,13 @@ use terms::Auction;
 pub(crate) const ASKED: u8 = 4;
 
 // What an auction would answer at this moment.
-fn theoretical_line(out: &mut [u8], at: usize, session: Session, auction: u8) -> usize
+fn theoretical_line(
+    rt: &impl Print,
+    out: &mut [u8],
+    at: usize,
+    session: Session,
+    auction: u8,
+) -> usize
     requires { Sound session × (at ≤ length out.old) }
     ensures { result ≤ length out.old }
 {
@@ -26,18 +32,23 @@ fn theoretical_line(out: &mut [u8], at: usize, session: Session, auction: u8) ->
         result.quantity,
         result.count as u64,
     ];
-    put_line(out, at, b"theoretical", &numbers)
+    put_line(rt, out, at, b"theoretical", &numbers)
 }
 
 // .. of each auction.
-pub(crate) fn theoretical_lines(out: &mut [u8], at: usize, session: Session) -> usize
+pub(crate) fn theoretical_lines(
+    rt: &impl Print,
+    out: &mut [u8],
+    at: usize,
+    session: Session,
+) -> usize
     requires { Sound session × (at ≤ length out.old) }
     ensures { result ≤ length out.old }
 {
     let mut end = at;
     let mut auction: u8 = 0;
     while auction < ASKED {
-        end = theoretical_line(out, end, session, auction);
+        end = theoretical_line(rt, out, end, session, auction);
         auction += 1;
     }
     end
@@ -46,13 +57,20 @@ pub(crate) fn theoretical_lines(out: &mut [u8], at: usize, session: Session) -> 
 // A ranked queue. Its orders are never more than the list has numbers, so that they are a part of it.
 pub(crate) fn queue_of(session: Session, side: u8, auction: u8, list: &mut [u32]) -> Queued
     requires { Sound session }
-    ensures { IsPrefixLen result.count list.new }
+    ensures { IsFront result.count list.new }
 {
     calls::ranked(session, side, auction, list)
 }
 
 // A ranked queue's answer and its order numbers, best first.
-fn ranked_line(out: &mut [u8], at: usize, session: Session, side: u8, auction: u8) -> usize
+fn ranked_line(
+    rt: &impl Print,
+    out: &mut [u8],
+    at: usize,
+    session: Session,
+    side: u8,
+    auction: u8,
+) -> usize
     requires { Sound session × (at ≤ length out.old) }
     ensures { result ≤ length out.old }
 {
@@ -60,60 +78,60 @@ fn ranked_line(out: &mut [u8], at: usize, session: Session, side: u8, auction: u
     let r = queue_of(session, side, auction, &mut queue);
     let count = r.count as usize;
     let numbers = [side as u64, auction as u64, r.answer as u64, r.count as u64];
-    let p = put_bytes(out, at, b"ranked");
-    let q = put_numbers(out, p, &numbers);
-    let end = put_order_numbers(out, q, &queue[..count]);
-    put_bytes(out, end, b"\n")
+    let p = put_bytes(rt, out, at, b"ranked");
+    let q = put_numbers(rt, out, p, &numbers);
+    let end = put_order_numbers(rt, out, q, &queue[..count]);
+    put_bytes(rt, out, end, b"\n")
 }
 
 // .. of a side for each auction.
-fn ranked_lines_of(out: &mut [u8], at: usize, session: Session, side: u8) -> usize
+fn ranked_lines_of(rt: &impl Print, out: &mut [u8], at: usize, session: Session, side: u8) -> usize
     requires { Sound session × (at ≤ length out.old) }
     ensures { result ≤ length out.old }
 {
     let mut end = at;
     let mut auction: u8 = 0;
     while auction < ASKED {
-        end = ranked_line(out, end, session, side, auction);
+        end = ranked_line(rt, out, end, session, side, auction);
         auction += 1;
     }
     end
 }
 
 // .. of each side.
-pub(crate) fn ranked_lines(out: &mut [u8], at: usize, session: Session) -> usize
+pub(crate) fn ranked_lines(rt: &impl Print, out: &mut [u8], at: usize, session: Session) -> usize
     requires { Sound session × (at ≤ length out.old) }
     ensures { result ≤ length out.old }
 {
     let mut end = at;
     let mut side: u8 = 0;
     while side < ASKED {
-        end = ranked_lines_of(out, end, session, side);
+        end = ranked_lines_of(rt, out, end, session, side);
         side += 1;
     }
     end
 }
 
 // A ranked queue asked with a list that is one number too short (01 "Refusals by number", 12).
-fn short_line(out: &mut [u8], at: usize, session: Session, side: u8) -> usize
+fn short_line(rt: &impl Print, out: &mut [u8], at: usize, session: Session, side: u8) -> usize
     requires { Sound session × (at ≤ length out.old) }
     ensures { result ≤ length out.old }
 {
     let mut list = [0u32; Session::QUEUE_LIST - 1];
     let r = calls::ranked(session, side, Auction::OPENING, &mut list);
     let numbers = [side as u64, r.answer as u64, r.count as u64];
-    put_line(out, at, b"short", &numbers)
+    put_line(rt, out, at, b"short", &numbers)
 }
 
 // .. of each side.
-pub(crate) fn short_lines(out: &mut [u8], at: usize, session: Session) -> usize
+pub(crate) fn short_lines(rt: &impl Print, out: &mut [u8], at: usize, session: Session) -> usize
     requires { Sound session × (at ≤ length out.old) }
     ensures { result ≤ length out.old }
 {
     let mut end = at;
     let mut side: u8 = 0;
     while side < ASKED {
-        end = short_line(out, end, session, side);
+        end = short_line(rt, out, end, session, side);
         side += 1;
     }
     end

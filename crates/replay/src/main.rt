@@ -9,10 +9,12 @@ ghost use Rattle.replay.specs.Turns.{waits_for, is_over, Fetched, RoomToRead, Go
 ghost use Rattle.replay.specs.WholeRun.{first_run, WholeRun};
 
 use feed::{Held, read_behind};
-use libc::{STDERR_FILENO, STDOUT_FILENO};
 use session::Session;
 use telling::told;
 use transcript::Stop;
+
+// Of the input and of the output each, in bytes.
+const BUFFER: usize = 65_536;
 
 // A loop must end and nothing says that an input does. There are never more turns than bytes and reads (`turns-suffice`).
 const MOST_TURNS: u64 = 1_099_511_627_776;
@@ -48,17 +50,19 @@ fn is_over(stop: Stop) -> bool
     }
 }
 
-fn say(line: &[u8]) {
-    io::write_all(STDERR_FILENO, line);
+fn say(errors: &impl Print, line: &[u8]) {
+    let _ = errors.write_all(line);
 }
 
 // The bytes for the next telling: one read more where the last one waits for it. It holds fewer than a record can have, so there is room for a read.
-fn next_held(input: &mut [u8], held: Held, stop: Stop) -> Held
+fn next_held(rt: &impl Input, errors: &impl Print, input: &mut [u8], held: Held, stop: Stop) -> Held
     requires { Within (length input.old) held × RoomToRead (length input.old) held stop }
     ensures { Within (length input.old) result × Fetched stop (length input.old) (held_in held input.old) held.ended (held_in result input.new) result.ended }
 {
     if waits(stop) {
         return read_behind(
+            rt,
+            errors,
             input,
             held,
             b"replay: standard input can't be read further; it is taken to end here\n",
@@ -68,32 +72,38 @@ fn next_held(input: &mut [u8], held: Held, stop: Stop) -> Held
 }
 
 // What was told goes to standard output. Where it can't be written, the run is over.
-fn print(text: &[u8], stop: Stop) -> Stop
+fn print(rt: &impl Print, errors: &impl Print, text: &[u8], stop: Stop) -> Stop
     ensures { (result ≡ stop) ⊎ (result ≡ Stop.End) }
 {
-    let is_written = io::write_all(STDOUT_FILENO, text);
+    let is_written = rt.write_all(text).is_ok();
     if !is_written {
-        say(b"replay: standard output can't be written\n");
+        say(errors, b"replay: standard output can't be written\n");
         return Stop::End;
     }
     stop
 }
 
 // A turn: a read where the last telling waits for one, the bytes held told, and what was told printed.
-fn turned(run: Run, input: &mut [u8], output: &mut [u8]) -> Run
+fn turned(
+    rt: &(impl Input + Print),
+    errors: &impl Print,
+    run: Run,
+    input: &mut [u8],
+    output: &mut [u8],
+) -> Run
     requires { Going (length input.old) run × (length_bound ≤ length input.old) × (run.answered + length input.old < 2 ^ 64) }
     ensures { Going (length input.old) result × (result.answered ≤ run.answered + length input.old) × Turned run input.old output.old result input.new output.new }
 {
     let before = run.held;
     let last = run.stop;
-    let held = next_held(input, before, last);
+    let held = next_held(rt, errors, input, before, last);
     let from = held.from;
     let to = held.to;
     let session = run.session;
     let r = told(session, run.answered, &input[from..to], held.ended, output);
     let end = r.at;
     let why = r.stop;
-    let stop = print(&output[..end], why);
+    let stop = print(rt, errors, &output[..end], why);
     let later = r.session;
     Run {
         session: later,
@@ -123,14 +133,19 @@ fn first() -> Run
 }
 
 // One turn after the other, until one is over; the run as the last one left it.
-fn all_turns(input: &mut [u8], output: &mut [u8]) -> Run
+fn all_turns(
+    rt: &(impl Input + Print),
+    errors: &impl Print,
+    input: &mut [u8],
+    output: &mut [u8],
+) -> Run
     requires { (length input.old ≡ length_bound) × (record_room ≤ length output.old) }
     ensures { WholeRun input.old output.old result input.new output.new }
 {
     let mut run = first();
     let mut left = MOST_TURNS;
     while left > 0 {
-        let next = turned(run, input, output);
+        let next = turned(rt, errors, run, input, output);
         run = next;
         let stop = run.stop;
         if is_over(stop) {
@@ -141,12 +156,16 @@ fn all_turns(input: &mut [u8], output: &mut [u8]) -> Run
     run
 }
 
-fn main() {
-    let mut input = io::large_buffer();
-    let mut output = io::large_buffer();
-    let last = all_turns(&mut input, &mut output);
+fn main(rt: HostRuntime) {
+    let errors = rt.stderr();
+    let mut input = [0u8; BUFFER];
+    let mut output = [0u8; BUFFER];
+    let last = all_turns(&rt, &errors, &mut input, &mut output);
     let stop = last.stop;
     if !is_over(stop) {
-        say(b"replay: the run's turns are used up; what follows is not told\n");
+        say(
+            &errors,
+            b"replay: the run's turns are used up; what follows is not told\n",
+        );
     }
 }

@@ -40,7 +40,8 @@ pub(crate) fn rewritten(file: &[u8], out: &mut [u8]) -> Ending
         match piece {
             Piece::Record(record, next) => {
                 let written = write_record(record, out, end);
-                if written.answer != 0 {
+                let is_refused = written.answer != 0;
+                if is_refused {
                     return Ending {
                         written,
                         count,

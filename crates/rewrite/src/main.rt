@@ -7,41 +7,37 @@ mod copy;
 ghost use Rattle.std.specs.Prelude.{◌≤◌, length};
 
 use copy::{Ending, rewritten};
-use libc::{STDERR_FILENO, STDIN_FILENO, STDOUT_FILENO};
+use feed::read_full;
 
-fn show(out: &[u8], end: usize)
+// The longest file that is read.
+const FILE: usize = 65_536;
+
+// A write that fails is passed over, here and in `tell`.
+fn show(rt: &impl Print, out: &[u8], end: usize)
     requires { end ≤ length out.now }
 {
-    io::write_all(STDOUT_FILENO, &out[..end]);
-}
-
-fn say_record(count: u64) {
-    io::write_all(STDERR_FILENO, b"rewrite: record ");
-    io::print_decimal(STDERR_FILENO, count);
+    let _ = rt.write_all(&out[..end]);
 }
 
 // Why the record at which the copy ended was not written; nothing at the end of the file.
-fn tell(r: Ending) {
-    let written = r.written;
-    if written.answer != 0 {
-        say_record(r.count);
-        io::write_all(STDERR_FILENO, b" is refused with ");
-        io::print_decimal(STDERR_FILENO, written.answer as u64);
-        io::write_all(STDERR_FILENO, b"\n");
+fn tell(rt: &impl Eprint, r: Ending) {
+    let count = r.count;
+    let answer = r.written.answer;
+    if answer != 0 {
+        let _ = eprintln!(rt; "rewrite: record {count} is refused with {answer}");
     } else if r.faulty {
-        say_record(r.count);
-        io::write_all(STDERR_FILENO, b" is faulty\n");
+        let _ = eprintln!(rt; "rewrite: record {count} is faulty");
     }
 }
 
 // The first 65,536 bytes are the whole file, so that it is read once and fits its buffer.
-fn main() {
-    let mut file = io::large_buffer();
-    let size = io::read_full(STDIN_FILENO, &mut file);
-    let mut out = io::large_buffer();
+fn main(rt: HostRuntime) {
+    let mut file = [0u8; FILE];
+    let size = read_full(&rt, &mut file);
+    let mut out = [0u8; FILE];
     let r = rewritten(&file[..size], &mut out);
     let written = r.written;
     let end = written.place;
-    show(&out, end);
-    tell(r);
+    show(&rt, &out, end);
+    tell(&rt, r);
 }

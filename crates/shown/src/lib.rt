@@ -3,27 +3,24 @@
 
 ghost use Rattle.std.specs.Prelude.{◌≤◌, length};
 
-use libc::STDOUT_FILENO;
+use itoa::Buffer;
 
-// At most: the digits of a number of 64 bits.
-const DIGITS: usize = 20;
-
-// What is gathered goes to standard output.
-pub fn show(out: &[u8], at: usize)
+// What is gathered goes to standard output. A write that fails is passed over.
+pub fn show(rt: &impl Print, out: &[u8], at: usize)
     requires { at ≤ length out.now }
 {
-    io::write_all(STDOUT_FILENO, &out[..at]);
+    let _ = rt.write_all(&out[..at]);
 }
 
 // Bytes behind those that are gathered; where there is no room for them both are shown, so that no look is too long.
-pub fn put_bytes(out: &mut [u8], at: usize, bytes: &[u8]) -> usize
+pub fn put_bytes(rt: &impl Print, out: &mut [u8], at: usize, bytes: &[u8]) -> usize
     requires { at ≤ length out.old }
     ensures { result ≤ length out.old }
 {
     let room = out.len() - at;
     if room < bytes.len() {
-        show(out, at);
-        io::write_all(STDOUT_FILENO, bytes);
+        show(rt, out, at);
+        let _ = rt.write_all(bytes);
         return 0;
     }
     let mut i: usize = 0;
@@ -35,25 +32,24 @@ pub fn put_bytes(out: &mut [u8], at: usize, bytes: &[u8]) -> usize
 }
 
 // A number in decimal, behind a space.
-fn put_number(out: &mut [u8], at: usize, n: u64) -> usize
+fn put_number(rt: &impl Print, out: &mut [u8], at: usize, n: u64) -> usize
     requires { at ≤ length out.old }
     ensures { result ≤ length out.old }
 {
-    let mut digits = [0u8; DIGITS];
-    let count = io::decimal(n, &mut digits);
-    let p = put_bytes(out, at, b" ");
-    put_bytes(out, p, &digits[..count])
+    let mut digits = Buffer::new();
+    let p = put_bytes(rt, out, at, b" ");
+    put_bytes(rt, out, p, digits.format(n).as_bytes())
 }
 
 // Numbers, each behind a space.
-pub fn put_numbers(out: &mut [u8], at: usize, numbers: &[u64]) -> usize
+pub fn put_numbers(rt: &impl Print, out: &mut [u8], at: usize, numbers: &[u64]) -> usize
     requires { at ≤ length out.old }
     ensures { result ≤ length out.old }
 {
     let mut end = at;
     let mut i: usize = 0;
     while i < numbers.len() {
-        end = put_number(out, end, numbers[i]);
+        end = put_number(rt, out, end, numbers[i]);
         i += 1;
     }
     end
@@ -66,25 +62,25 @@ pub fn wide(number: u32) -> u64
 }
 
 // .. and the order numbers of a queue.
-pub fn put_order_numbers(out: &mut [u8], at: usize, numbers: &[u32]) -> usize
+pub fn put_order_numbers(rt: &impl Print, out: &mut [u8], at: usize, numbers: &[u32]) -> usize
     requires { at ≤ length out.old }
     ensures { result ≤ length out.old }
 {
     let mut end = at;
     let mut i: usize = 0;
     while i < numbers.len() {
-        end = put_number(out, end, wide(numbers[i]));
+        end = put_number(rt, out, end, wide(numbers[i]));
         i += 1;
     }
     end
 }
 
 // A line of a word and its numbers.
-pub fn put_line(out: &mut [u8], at: usize, word: &[u8], numbers: &[u64]) -> usize
+pub fn put_line(rt: &impl Print, out: &mut [u8], at: usize, word: &[u8], numbers: &[u64]) -> usize
     requires { at ≤ length out.old }
     ensures { result ≤ length out.old }
 {
-    let p = put_bytes(out, at, word);
-    let q = put_numbers(out, p, numbers);
-    put_bytes(out, q, b"\n")
+    let p = put_bytes(rt, out, at, word);
+    let q = put_numbers(rt, out, p, numbers);
+    put_bytes(rt, out, q, b"\n")
 }

@@ -5,26 +5,25 @@
 ghost use Rattle.session.specs.Sound.{Sound};
 
 use calls::{AuctionAnswer, Session};
-use libc::STDOUT_FILENO;
 use terms::{Auction, Entry, OneStep, Side, Validity};
 
 const REFERENCE: u32 = 100_000;
 
-fn put(text: &[u8]) {
-    io::write_all(STDOUT_FILENO, text);
+// A write that fails is passed over, here and in `put_number`.
+fn put(rt: &impl Print, text: &[u8]) {
+    let _ = rt.write_all(text);
 }
 
-fn put_number(n: u64) {
-    put(b" ");
-    io::print_decimal(STDOUT_FILENO, n);
+fn put_number(rt: &impl Print, n: u64) {
+    let _ = print!(rt; " {n}");
 }
 
-fn put_answer(r: AuctionAnswer) {
-    put_number(r.outcome as u64);
-    put_number(r.price as u64);
-    put_number(r.quantity);
-    put_number(r.count as u64);
-    put(b"\n");
+fn put_answer(rt: &impl Print, r: AuctionAnswer) {
+    put_number(rt, r.outcome as u64);
+    put_number(rt, r.price as u64);
+    put_number(rt, r.quantity);
+    put_number(rt, r.count as u64);
+    put(rt, b"\n");
 }
 
 fn started(reference: u32) -> Session
@@ -87,22 +86,22 @@ fn two(buy: u32, buy_limit: u32, sell: u32, sell_limit: u32) -> Session
 }
 
 // An auction; its four numbers end the line.
-fn held(session: Session, which: u8, list: &mut [u32]) -> Session
+fn held(rt: &impl Print, session: Session, which: u8, list: &mut [u32]) -> Session
     requires { Sound session }
     ensures { Sound result }
 {
     let r = calls::auction(session, which, list);
-    put_answer(r.result);
+    put_answer(rt, r.result);
     let next = r.session;
     next
 }
 
-fn opened(session: Session) -> Session
+fn opened(rt: &impl Print, session: Session) -> Session
     requires { Sound session }
     ensures { Sound result }
 {
     let mut list = [0u32; Session::TRADE_LIST];
-    held(session, Auction::OPENING, &mut list)
+    held(rt, session, Auction::OPENING, &mut list)
 }
 
 // What an order alone in the book is answered.
@@ -112,36 +111,40 @@ fn answered(quantity: u32, limit: u32) -> u64 {
     r.answer as u64
 }
 
-fn put_answers(one: u64, other: u64) {
-    put_number(one);
-    put_number(other);
-    put(b"\n");
+fn put_answers(rt: &impl Print, one: u64, other: u64) {
+    put_number(rt, one);
+    put_number(rt, other);
+    put(rt, b"\n");
 }
 
-fn controls() {
-    put(b"P1");
-    put_answers(answered(1, 899_900), answered(1, 900_000));
-    put(b"P2");
-    put_answers(answered(1, 11_200), answered(1, 11_100));
-    put(b"P3");
-    put_answers(answered(5_000_000, 200_000), answered(4_999_999, 200_000));
-    put(b"P4");
-    put_answers(answered(10_000_000, 0), answered(9_999_999, 0));
+fn controls(rt: &impl Print) {
+    put(rt, b"P1");
+    put_answers(rt, answered(1, 899_900), answered(1, 900_000));
+    put(rt, b"P2");
+    put_answers(rt, answered(1, 11_200), answered(1, 11_100));
+    put(rt, b"P3");
+    put_answers(
+        rt,
+        answered(5_000_000, 200_000),
+        answered(4_999_999, 200_000),
+    );
+    put(rt, b"P4");
+    put_answers(rt, answered(10_000_000, 0), answered(9_999_999, 0));
 }
 
-fn prices() {
-    put(b"P5");
-    opened(two(100, 100_500, 100, 99_500));
-    put(b"P6");
-    opened(two(100, 100_500, 60, 99_500));
-    put(b"P6");
-    opened(two(60, 100_500, 100, 99_500));
-    put(b"P7");
-    opened(two(50, 0, 50, 0));
-    put(b"P8");
-    opened(two(50, 0, 30, 100_200));
-    put(b"P8");
-    opened(two(30, 0, 30, 100_200));
+fn prices(rt: &impl Print) {
+    put(rt, b"P5");
+    opened(rt, two(100, 100_500, 100, 99_500));
+    put(rt, b"P6");
+    opened(rt, two(100, 100_500, 60, 99_500));
+    put(rt, b"P6");
+    opened(rt, two(60, 100_500, 100, 99_500));
+    put(rt, b"P7");
+    opened(rt, two(50, 0, 50, 0));
+    put(rt, b"P8");
+    opened(rt, two(50, 0, 30, 100_200));
+    put(rt, b"P8");
+    opened(rt, two(30, 0, 30, 100_200));
 }
 
 // P9's book.
@@ -154,73 +157,73 @@ fn four(reference: u32) -> Session
     sold(three, 20, 100_400)
 }
 
-fn ties() {
-    put(b"P9");
-    opened(four(REFERENCE));
-    put(b"P9");
-    opened(four(101_000));
+fn ties(rt: &impl Print) {
+    put(rt, b"P9");
+    opened(rt, four(REFERENCE));
+    put(rt, b"P9");
+    opened(rt, four(101_000));
 }
 
-fn delays() {
-    put(b"P10");
-    let delayed = opened(two(10, 101_500, 10, 101_500));
-    put(b"P10");
-    opened(delayed);
-    put(b"P10");
-    opened(two(10, 101_400, 10, 101_400));
+fn delays(rt: &impl Print) {
+    put(rt, b"P10");
+    let delayed = opened(rt, two(10, 101_500, 10, 101_500));
+    put(rt, b"P10");
+    opened(rt, delayed);
+    put(rt, b"P10");
+    opened(rt, two(10, 101_400, 10, 101_400));
 }
 
-fn put_resting(session: Session, side: u8)
+fn put_resting(rt: &impl Print, session: Session, side: u8)
     requires { Sound session }
 {
     let mut list = [0u32; Session::QUEUE_LIST];
     let r = calls::ranked(session, side, Auction::CLOSING, &mut list);
-    put_number(r.count as u64);
+    put_number(rt, r.count as u64);
 }
 
 // The at-the-close order waits for the closing; both sides of the book are empty after it.
-fn at_close() {
+fn at_close(rt: &impl Print) {
     let buy = entered(started(REFERENCE), Side::BUY, Validity::AT_CLOSE, 50, 0);
     let session = sold(buy, 30, 100_200);
-    put(b"opening");
-    let day = opened(session);
-    put(b"closing");
+    put(rt, b"opening");
+    let day = opened(rt, session);
+    put(rt, b"closing");
     let mut list = [0u32; Session::TRADE_LIST];
-    let closed = held(day, Auction::CLOSING, &mut list);
-    put(b"resting");
-    put_resting(closed, Side::BUY);
-    put_resting(closed, Side::SELL);
-    put(b"\n");
+    let closed = held(rt, day, Auction::CLOSING, &mut list);
+    put(rt, b"resting");
+    put_resting(rt, closed, Side::BUY);
+    put_resting(rt, closed, Side::SELL);
+    put(rt, b"\n");
 }
 
-fn put_trade(buy: u32, sell: u32, quantity: u32) {
-    put(b"trade");
-    put_number(buy as u64);
-    put_number(sell as u64);
-    put_number(quantity as u64);
-    put(b"\n");
+fn put_trade(rt: &impl Print, buy: u32, sell: u32, quantity: u32) {
+    put(rt, b"trade");
+    put_number(rt, buy as u64);
+    put_number(rt, sell as u64);
+    put_number(rt, quantity as u64);
+    put(rt, b"\n");
 }
 
 // The worked input: the trades as the list has them.
-fn worked() {
+fn worked(rt: &impl Print) {
     let one = bought(started(REFERENCE), 50, 100_200);
     let both = bought(one, 50, 100_400);
     let three = bought(both, 50, 100_200);
     let session = sold(three, 80, 100_200);
     let mut list = [0u32; Session::TRADE_LIST];
-    put(b"auction");
-    held(session, Auction::OPENING, &mut list);
-    put_trade(list[0], list[1], list[2]);
-    put_trade(list[4], list[5], list[6]);
+    put(rt, b"auction");
+    held(rt, session, Auction::OPENING, &mut list);
+    put_trade(rt, list[0], list[1], list[2]);
+    put_trade(rt, list[4], list[5], list[6]);
 }
 
-fn main() {
-    controls();
-    prices();
-    ties();
-    delays();
-    put(b"empty");
-    opened(started(REFERENCE));
-    at_close();
-    worked();
+fn main(rt: HostRuntime) {
+    controls(&rt);
+    prices(&rt);
+    ties(&rt);
+    delays(&rt);
+    put(&rt, b"empty");
+    opened(&rt, started(REFERENCE));
+    at_close(&rt);
+    worked(&rt);
 }

@@ -1,0 +1,9 @@
+use Rattle.std.proofs.Common.{sym, subst}
+use Rattle.session.specs.Sound.{Sound}
+use Rattle.entries.specs.SoundAfter.{entered-sound}
+use Rattle.entries.specs.declared.Entered.{Entered}
+use Rattle.auction_cost.proofs.filled.Goals as goal
+
+pub loop-i-preserved : goal.loop-i-preserved
+loop-i-preserved c =
+    (subst (λ (r : Entered). Sound r.session) (sym c.order-r.ensures) (entered-sound _ _ c.loop-i.invariant.0), c.next-x.ensures)

@@ -1,0 +1,13 @@
+use Rattle.std.proofs.Common.{sym, subst}
+use Rattle.session.specs.Sound.{Sound}
+use Rattle.entries.specs.SoundAfter.{entered-sound}
+use Rattle.entries.specs.declared.Entered.{Entered}
+use Rattle.quotation.specs.QuoteSound.{quoted-sound}
+use Rattle.quotation.specs.declared.Quoted.{Quoted}
+use Rattle.entry_cost.proofs.filled.Goals as goal
+
+pub loop-i-preserved : goal.loop-i-preserved
+loop-i-preserved c = subst (λ (r : Entered). Sound r.session) (sym c.order-r.ensures) (entered-sound _ _ c.loop-i.invariant)
+
+pub returns : goal.returns
+returns c = subst (λ (r : Quoted). Sound r.session) (sym c.quote-r.ensures) (quoted-sound _ _ c.loop-i.invariant)

@@ -1,0 +1,13 @@
+use Rattle.std.proofs.Common.{sym, subst}
+use Rattle.session.specs.Sound.{Sound, fresh-sound}
+use Rattle.entries.specs.SoundAfter.{started-sound}
+use Rattle.entries.specs.declared.Started.{Started}
+use Rattle.entry_cost.proofs.started.Goals as goal
+
+pub start-r-requires : goal.start-r-requires
+start-r-requires c = subst Sound (sym c.fresh-fresh.ensures) fresh-sound
+
+pub returns : goal.returns
+returns c =
+    subst (λ (r : Started). Sound r.session) (sym c.start-r.ensures)
+    (started-sound _ _ (subst Sound (sym c.fresh-fresh.ensures) fresh-sound))
