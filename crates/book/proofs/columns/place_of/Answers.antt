@@ -29,7 +29,7 @@ loop-place-preserved c = let within : c.loop-place.place + 8 ≤ 512 = omega ari
       rw (left-more _ within)
       (first_past _ 8 _ _
       (elim c.if-has_number.branch [
-        then-has_number+else-found-place w ↦ rw (← w.place_in_group-found.ensures) (omega (arith, w.if-found-place.false))
+        | then-has_number+else-found-place w ↦ rw (← w.place_in_group-found.ensures) (omega (arith, w.if-found-place.false))
         | else-has_number w ↦ let a = c.args in place-in-none a.taken.now a.numbers.now a.members.now a.number a.member 8 _ (sym c.has_number.ensures ∙ w.if-has_number.false)
       ])),
 )

@@ -31,7 +31,7 @@ loop-place-preserved c = let within : c.loop-place.place + 16 ≤ 512 = omega ar
       rw (left-more _ within)
       (first_past _ 16 _ _
       (elim c.if-has_quote.branch [
-        then-has_quote+else-found-place w ↦ rw (← w.quote_in_group-found.ensures) (omega (arith, w.if-found-place.false))
+        | then-has_quote+else-found-place w ↦ rw (← w.quote_in_group-found.ensures) (omega (arith, w.if-found-place.false))
         | else-has_quote w ↦ let a = c.args in quote-in-none a.quoted.now a.members.now a.sides.now a.member a.side 16 _ (sym c.has_quote.ensures ∙ w.if-has_quote.false)
       ])),
 )
