@@ -2,6 +2,5 @@
 
 -- the paper
 pub mod Auctions
--- its laws
 -- as the code computes it
 pub mod AuctionCalls

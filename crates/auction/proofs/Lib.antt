@@ -1,3 +1,4 @@
+-- Laws of what specs/ defines that fall with an edit of must-fail/: in specs/ such an edit could not be read.
 pub mod AfterLaws
 pub mod Composed
 pub mod Decided

@@ -19,7 +19,8 @@ fn put_cell(out: &mut [u8], at: usize, buyer: u16, seller: u16, quantity: u64) -
     requires { at + owes_room ≤ length out.old }
     ensures { WroteWithin owes_most out.old out.new at result (owes_line buyer seller quantity) }
 {
-    if quantity == 0 {
+    let is_empty = quantity == 0;
+    if is_empty {
         return at;
     }
     let numbers = [buyer as u64, seller as u64, quantity];

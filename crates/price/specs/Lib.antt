@@ -4,7 +4,6 @@
 pub mod Interest
 pub mod Candidates
 pub mod Chain
--- its laws
 -- as the code computes it
 pub mod Search
 pub mod SearchFinds

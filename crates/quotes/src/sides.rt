@@ -50,7 +50,8 @@ fn quote_in_group<'a>(
     let behind = from + GROUP;
     let mut place: usize = from;
     while place < behind {
-        if quoted[place] == 1 {
+        let is_side = quoted[place] == 1;
+        if is_side {
             if (members[place] == member) & (sides[place] == side) {
                 return place;
             }

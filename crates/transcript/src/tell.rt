@@ -35,8 +35,8 @@ pub fn next_told(bytes: &[u8], place: usize, ended: bool, room: usize) -> Next
     }
 }
 
-// The records, one by one. One session stands through all of them, and a change is stored in it here, column by column: the kit lends one
-// column to a call, and a session by value would be copied for each record.
+// The records, one by one. One session stands through all of them, and a change is stored in it here, column by column: a column
+// is lent to a call, where a session by value would be copied for each record.
 pub fn records_told(
     session: Session,
     answered: u64,
