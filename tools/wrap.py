@@ -1,5 +1,6 @@
 #!/usr/bin/env python3
-"""wrap.py: wraps the lines of README.md and docs/*.md alike. wrap.py --check: says which are not, with status 1."""
+"""wrap.py: wraps the lines of README.md and docs/*.md alike, but for docs/PORT.md, which begins with lines of one commit each.
+wrap.py --check: says which are not, with status 1."""
 import re
 import sys
 import textwrap
@@ -39,6 +40,8 @@ def main():
     bad = 0
     for file in [root / "README.md", *sorted((root / "docs").glob("*.md"))]:
         text = file.read_text()
+        if file.name == "PORT.md":
+            continue
         if wrapped(text) == text:
             continue
         if "--check" in sys.argv:

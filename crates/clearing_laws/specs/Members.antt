@@ -15,10 +15,9 @@ use Rattle.desk.specs.SoundAfter.{fresh-desk-sound, entering-joins}
 use Rattle.desk_auction.specs.Auctions.{auctioned}
 use Rattle.demands.specs.Sequences.{Act, Call}
 use Rattle.clearing_laws.specs.Runs.{after, run}
-use Rattle.clearing_laws.specs.Owed.{handed-on}
 
 -- whose order or quote a call accepts, and those of a run, one after the other
-abbrev if_accepted : ℕ → ℕ → List ℕ
+abbrev pub if_accepted : ℕ → ℕ → List ℕ
 if_accepted zero m = m ∷ []
 if_accepted (suc answer) m = []
 
@@ -41,43 +40,3 @@ accepted_so_far d (c ∷ cs) = accepted d c ++ accepted_so_far (after d c) cs
 abbrev pub joined_all : List ℕ → List ℕ → List ℕ
 joined_all ms [] = ms
 joined_all ms (x ∷ xs) = joined_all (joined ms x) xs
-
-joined-then : (ms xs ys : List ℕ) → joined_all ms (xs ++ ys) ≡ joined_all (joined_all ms xs) ys
-joined-then ms [] ys = refl
-joined-then ms (x ∷ xs) ys = joined-then (joined ms x) xs ys
-
-not-accepted : (n m : ℕ) → n ≢ 0 → if_accepted n m ≡ []
-not-accepted zero m h = absurd (h refl)
-not-accepted (suc n) m h = refl
-
-module _ (d : Desk) (sound : SoundDesk d) where
-  by_order : (e : Entry) → known (entered d e).desk ≡ joined_all (known d) (accepted_by d (Act.order e))
-  unfolding entered
-  by_order e =
-      answered-cases (order_checks d e) (order_refused d) (order_done d e) (λ (r : Entered). known r.desk ≡ joined_all (known d) (if_accepted r.answer e.member))
-      (λ n h i. rw (not-accepted n e.member h)) (λ h. entering-joins d sound e.member (clear (order_checks d e) tt h 16) d.session d.rows)
-
-  by-quote : (e : QuoteEntry) → known (quoted d e).desk ≡ joined_all (known d) (accepted_by d (Act.quote e))
-  unfolding quoted
-  by-quote e =
-      answered-cases (quote_checks d e) (quote_refused d) (quote_done d e) (λ (r : Quoted). known r.desk ≡ joined_all (known d) (if_accepted r.answer e.member))
-      (λ n h i. rw (not-accepted n e.member h)) (λ h. entering-joins d sound e.member (clear (quote_checks d e) tt h 16) d.session d.rows)
-
-  by_call : (c : Call) → known (after d c) ≡ joined_all (known d) (accepted d c)
-  unfolding auctioned
-  by_call (Call.act (Act.start x)) = refl
-  by_call (Call.act (Act.order e)) = by_order e
-  by_call (Call.act (Act.delete number member)) = refl
-  by_call (Call.act (Act.quote e)) = by-quote e
-  by_call (Call.act (Act.auction which list)) = refl
-  by_call (Call.look l) = refl
-
-by-run : (d : Desk) (cs : List Call) → SoundDesk d → known (run d cs) ≡ joined_all (known d) (accepted_so_far d cs)
-by-run d [] sound = refl
-by-run d (c ∷ cs) sound =
-    by-run (after d c) cs (handed-on d c sound)
-    ∙ rw (by_call d sound c, joined-then (known d) (accepted d c) (accepted_so_far (after d c) cs))
-
--- K5. Over every run of calls the rows are the members whose orders or quotes were accepted, each once, in the order of the first.
-pub rows-in-order : (cs : List Call) → known (run fresh_desk cs) ≡ joined_all [] (accepted_so_far fresh_desk cs)
-rows-in-order cs = by-run fresh_desk cs fresh-desk-sound

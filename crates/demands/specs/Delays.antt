@@ -16,7 +16,7 @@ use Rattle.courses.specs.Held.{delayable}
 use Rattle.answers.specs.Auctions.{AuctionLeaves, outcome_of, session_after, auction_checks, auction_refused, auction_done, auctioned}
 use Rattle.session.specs.State.{part}
 use Rattle.demands.specs.Sequences.{Act, Call, acted, after, run}
-use Rattle.demands.specs.Outcomes.{decided, others_keep}
+use Rattle.demands.specs.Outcomes.{others_keep}
 
 -- the mark, once set, stays, and holds off another delay
 mark-stays : (s : Session) (c : Act) → s.delayed ≡ true → (acted s c).delayed ≡ true
@@ -35,42 +35,7 @@ mark-stays s (Act.auction which list) e =
     outcomes a NonOpening = e
     outcomes a (Delayed price quantity) = refl
 
-marked-run : (s : Session) (cs : List Call) → s.delayed ≡ true → (run s cs).delayed ≡ true
+pub marked-run : (s : Session) (cs : List Call) → s.delayed ≡ true → (run s cs).delayed ≡ true
 marked-run s [] e = e
 marked-run s (Call.act c ∷ cs) e = marked-run (acted s c) cs (mark-stays s c e)
 marked-run s (Call.look l ∷ cs) e = marked-run s cs e
-
--- outcome 4 is answered by an auction that is done
-module _ (s : Session) (which : ℕ) (list : List ℕ) where
-  abbrev asked : Auction
-  asked = auction_from which
-
-  mark_set : (auctioned s which list).returned.result.outcome ≡ 4 → (auctioned s which list).returned.session.delayed ≡ true
-  unfolding auctioned
-  mark_set =
-      answered-cases (auction_checks s which (length list)) (auction_refused s list) (auction_done s asked list)
-      (λ (l : AuctionLeaves). l.returned.result.outcome ≡ 4 → l.returned.session.delayed ≡ true) (λ n h e i. absurd (omega arith)) (λ e. sets (outcome_of s asked))
-    where
-      sets : (o : Outcome) → outcome_number o ≡ 4 → (session_after s asked (part s asked) o).delayed ≡ true
-      sets (Traded price quantity) h = absurd (omega arith)
-      sets NoTrade h = absurd (omega arith)
-      sets NonOpening h = absurd (omega arith)
-      sets (Delayed price quantity) h = refl
-
-  mark-spent : s.delayed ≡ true → (auctioned s which list).returned.result.outcome ≢ 4
-  unfolding auctioned
-  mark-spent marked =
-      answered-cases (auction_checks s which (length list)) (auction_refused s list) (auction_done s asked list) (λ (l : AuctionLeaves). l.returned.result.outcome ≢ 4)
-      (λ n h e i. omega arith)
-      (λ e h. let (free, (p, found, delaying)) = (decided s asked).delayed.0 h in spent asked s.delayed s.parameters.threshold.0 s.reference.0 p marked delaying)
-    where
-      spent : (a : Auction) (d : Bool) (threshold reference price : ℕ) → d ≡ true → T (delayable a d && reaches threshold reference price) → ⊥
-      spent Opening true threshold reference price i h = h
-      spent Opening false threshold reference price i h = true≢false (sym i)
-      spent Closing d threshold reference price i h = h
-
--- B9, once: after a Delayed Opening no call in any sequence answers outcome 4 again.
-pub delayed-once : (s : Session) (which : ℕ) (list : List ℕ) → (auctioned s which list).returned.result.outcome ≡ 4
-    → (cs : List Call) (again : ℕ) (lent : List ℕ) → (auctioned (run (auctioned s which list).returned.session cs) again lent).returned.result.outcome ≢ 4
-delayed-once s which list h cs again lent =
-    mark-spent (run (auctioned s which list).returned.session cs) again lent (marked-run (auctioned s which list).returned.session cs (mark_set s which list h))

@@ -7,7 +7,6 @@ pub mod RankedQueues
 pub mod Prices
 pub mod Outcomes
 pub mod Delays
-pub mod LegalPrices
 pub mod Prevented
 pub mod Foreseen
 pub mod Traded

@@ -15,25 +15,7 @@ use Rattle.session.specs.Sound.{legal_price, Sound}
 use Rattle.session.specs.State.{part}
 use Rattle.answers.specs.Auctions.{outcome_of, auctioned}
 use Rattle.demands.specs.Traded.{sound-ranged, every-closing-takes-place}
-use Rattle.demands.specs.Outcomes.{carried-out, outcomes-in-order}
-
--- C5. Non Opening exactly when no trade list at any price fills every unlimited order taking part ..
-pub opening-prevented : (s : Session) → Sound s → (list : List ℕ) → (auctioned s (auction_number Opening) list).returned.answer ≡ 0
-    → ((auctioned s (auction_number Opening) list).returned.result.outcome ≡ 3) ↔ (Fillable (part s Opening) → ⊥)
-opening-prevented s sound list accepted =
-    let number = (outcomes-in-order s Opening list accepted).non-opening in
-    let exactly = non-opening-exactly s.reference.0 (part s Opening) (taking_part-distinct Opening (resting s.book) (sound-ranged s sound).distinct) in
-    ((λ e. exactly.0 (number.0 e)), (λ no. number.1 (exactly.1 no)))
-
--- .. with "price" as any natural number above, and here as a price of 1 to 100,000,000 on its step by the table ..
-pub opening-prevented-legally : (s : Session) → Sound s → (list : List ℕ) → (auctioned s (auction_number Opening) list).returned.answer ≡ 0
-    → ((auctioned s (auction_number Opening) list).returned.result.outcome ≡ 3) ↔ (FillableAt (legal_price s) (part s Opening) → ⊥)
-opening-prevented-legally s sound list accepted =
-    let any-price = opening-prevented s sound list accepted in
-    let same =
-    fillable-legally (legal_price s) s.reference.0 (part s Opening) (taking_part-distinct Opening (resting s.book) (sound-ranged s sound).distinct) sound.reference-holds
-    (λ o m. (resting-sound (legal_price s) s.given s.book sound.book-sound o (taking_part-elim Opening (resting s.book) m).0).limit-legal) in
-    ((λ e f. any-price.0 e (same.1 f)), (λ no. any-price.1 (λ f. no (same.0 f))))
+use Rattle.demands.specs.Outcomes.{carried-out}
 
 -- .. and a closing has outcome 1 or 2 only
 pub closing-carried-out : (s : Session) (list : List ℕ) → (auctioned s (auction_number Closing) list).returned.answer ≡ 0

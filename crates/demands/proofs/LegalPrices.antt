@@ -12,7 +12,7 @@ use Rattle.session.specs.declared.{Session.Session}
 use Rattle.session.specs.Sound.{legal_price, Sound}
 use Rattle.answers.specs.Auctions.{auctioned}
 use Rattle.demands.specs.Prices.{price-is-legal}
-use Rattle.demands.specs.Outcomes.{outcomes-in-order}
+use Rattle.demands.proofs.Outcomes.{outcomes-in-order}
 
 -- B7. An auction price, of outcome 1 or 4, is legal: a price, and on its step by the session's table (02 K6),
 pub answered-price-is-legal : (s : Session) → Sound s → (a : Auction) (list : List ℕ) → (auctioned s (auction_number a) list).returned.answer ≡ 0

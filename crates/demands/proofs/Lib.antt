@@ -1,0 +1,5 @@
+pub mod Delays
+pub mod EveryRun
+pub mod LegalPrices
+pub mod Outcomes
+pub mod Prevented
