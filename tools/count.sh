@@ -18,8 +18,8 @@ fail() {
 . "$(dirname "$0")/x86.sh"
 
 if [ -z "$emulator" ]; then
-    [ -z "$erms" ] || fail "no qemu-x86_64, in the kit or on the PATH: nothing here can be told $erms"
-    [ "$machine" = x86_64 ] || fail "no qemu-x86_64, in the kit or on the PATH: nothing here runs an x86-64 program"
+    [ -z "$erms" ] || fail "no qemu-x86_64 on the PATH: nothing here can be told $erms"
+    [ "$machine" = x86_64 ] || fail "no qemu-x86_64 on the PATH: nothing here runs an x86-64 program"
     command -v valgrind >/dev/null || fail "neither qemu-x86_64 nor valgrind is on the PATH: nothing here counts instructions"
     if command -v objdump >/dev/null && command -v python3 >/dev/null; then
         echo "count: by valgrind, for want of qemu-x86_64: with the machine's C library, and turns of string moves for their bytes" >&2

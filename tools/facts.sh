@@ -11,14 +11,14 @@ commit() {
 }
 
 # changes [FOLDER]: what is here and not as committed, but for a release FOLDER. By an index of its own: git's goes by times and can be told to
-# look away. What git is to ignore counts among the crates, since the proofs see it.
+# look away. What git is to ignore counts among the crates, since the proofs see it, but for a crate's out/, which rt makes and rt ci puts aside.
 changes() (
     case ${1:-/} in /* | ..*) set -- ;; *) set -- ":(exclude,literal)$1" ;; esac
     own=$(mktemp -d) || { echo 'no folder for an index'; exit; }
     trap 'rm -rf "$own"' EXIT
     export GIT_INDEX_FILE="$own/index"
     { git read-tree HEAD && git status --porcelain --untracked-files=all -- . "$@"; } 2>/dev/null || echo 'git finds no commit to hold it to'
-    git ls-files --others --ignored --exclude-standard -- crates 2>/dev/null | sed 's/^/!! /'
+    git ls-files --others --ignored --exclude-standard -- crates ':(exclude,glob)crates/*/out/**' 2>/dev/null | sed 's/^/!! /'
 )
 
 sum() {

@@ -1,8 +1,8 @@
 #!/bin/sh
 # moved.sh FROM: make moved FROM=commit. Prints the skeleton of an entry of docs/CHANGES.md: for each crate which definitions, laws, public promises
-# and proofs differ between that commit and this one, by name (taken: as another crate had it), and what rt prove takes at each, from nothing, one
-# crate at a time. What differs is its own text: neither layout, comments and lines of use, nor what it cites. SECONDS_TOO=0 leaves the times out;
-# CRATES="lists terms" looks at these alone.
+# and proofs differ between that commit and this one, by name (taken: as another crate had it), and what the proof of each crate takes in rt ci --anew,
+# from nothing, one crate at a time: a whole tree may take hours. What differs is its own text: neither layout, comments and lines of use, nor what it
+# cites. SECONDS_TOO=0 leaves the times out; CRATES="lists terms" looks at these alone. The times of a commit of another kit are -.
 cd "$(dirname "$0")/.." || exit 1
 . tools/facts.sh
 say() {
@@ -25,12 +25,13 @@ for at in from now; do
     eval "git archive \"\$$at\"" | tar -x -C "$dir/$at" || fail "commit $at can't be laid out"
 done
 
-# stated CRATE: a line `kind name text` for each name of its specs, by tabs. What is an abbreviation, can be unfolded, or is a record or data is a
-# definition, whole; of other names what is stated is a law, and how it is shown a proof. What a module binds belongs to each name in it.
+# stated CRATE: a line `kind name text` for each name of its specs, and of the lemmas right in proofs/, by tabs. What is an abbreviation, can be
+# unfolded, or is a record or data is a definition, whole; of other names what is stated is a law, and how it is shown a proof. What a module binds
+# belongs to each name in it. A file of proofs/ and one of specs/ of its name are one: a theorem goes from one to the other and is the same.
 stated() {
-    [ ! -d "crates/$1/specs" ] || (cd "crates/$1/specs" && find . -name '*.antt' -exec awk '
+    (cd "crates/$1" 2>/dev/null && find specs proofs -name '*.antt' ! -path 'proofs/*/*' -exec awk '
         function put(kind, text) { said[kind "\t" file "." name] = said[kind "\t" file "." name] " " text }
-        FNR == 1 { file = substr(FILENAME, 3, length(FILENAME) - 7); gsub("/", ".", file); depth = 0; kind = ""; heading = 0; split("", kinds) }
+        FNR == 1 { file = FILENAME; sub(/^[a-z]*\//, "", file); sub(/\.antt$/, "", file); gsub("/", ".", file); depth = 0; kind = ""; heading = 0; split("", kinds) }
         /^ *(--.*)?$/ { next }
         { match($0, /^ */); indent = RLENGTH; text = substr($0, indent + 1); gsub(/ +/, " ", text) }
         !heading { while (depth && indent < body[depth]) depth-- }
@@ -55,7 +56,7 @@ stated() {
             if (kind == "law") kind = "shown"
             if (kind) put(kind, text)
         }
-        END { for (key in said) print key "\t" said[key] }' {} +)
+        END { for (key in said) print key "\t" said[key] }' {} + 2>/dev/null)
 }
 # The public functions of a crate, and its proofs by function.
 promised() {
@@ -69,7 +70,7 @@ promised() {
     }'
 }
 proved() {
-    [ ! -d "crates/$1/proofs" ] || (cd "crates/$1/proofs" && find . -name '*.antt' -exec awk '
+    [ ! -d "crates/$1/proofs" ] || (cd "crates/$1/proofs" && find . -path './*/*' -name '*.antt' -exec awk '
         FNR == 1 { name = substr(FILENAME, 3); sub(/(\/Proof)?\.antt$/, "", name); gsub("/", "::", name); said[name] = "" }
         /^ *(--.*)?$/ || /^use / { next }
         { gsub(/ +/, " "); said[name] = said[name] " " $0 }
@@ -91,23 +92,34 @@ names() (
 # seconds TREE COMMIT: a line `crate seconds` for each crate that rt proves there, from nothing
 seconds() (
     cd "$dir/$1" || exit 1
+    [ -n "$(asked)" ] || exit 0
+    # of a copy, in which nothing is to be refused: an edit's check is no part of a crate's proof
+    rm -rf crates/*/must-fail
     # shellcheck disable=SC2046
     all=$(below $(asked) | wc -l)
-    n=0
-    say "$2: proving $((all)) crates, which may take some minutes"
-    # One at a time, so that no crate's time depends on what is proved beside it.
+    say "$2: proving $((all)) crates, which may take long"
+    # rt gives no times, but a line as soon as a crate is proved, and as soon as its tests are: one at a time (RT_JOBS), what is between two lines is
+    # what the later one took.
     # shellcheck disable=SC2046
-    { if [ -n "$CRATES" ]; then RT_JOBS=1 rt check $(asked); else RT_JOBS=1 rt prove; fi 2>&1 </dev/null; echo $? >"$dir/status"; } |
+    { RT_JOBS=1 rt ci --anew ${CRATES:+$(asked)} 2>&1 </dev/null; echo $? >"$dir/status"; } | {
+        n=0
+        at=$(date +%s)
         while IFS= read -r line; do
+            case $line in 'rt: '*' proved' | 'rt: '*'NOT PROVED'*) ;; *) continue ;; esac
+            took=$(($(date +%s) - at))
+            at=$((at + took))
+            line=${line#rt: }
             case $line in
-            'rt: '*' proved ('*' s)')
+            *': its tests are proved') ;;
+            *' proved')
                 n=$((n + 1))
-                say "$2: ${line#rt: }, $n of $((all))"
-                echo "$line" | sed 's/^rt: \([^ ]*\) proved (\([0-9]*\) s)$/\1 \2/'
+                say "$2: $line ($took s), $n of $((all))"
+                echo "${line% proved} $took"
                 ;;
-            'rt: '*'NOT PROVED'*) say "$2: ${line#rt: }" ;;
+            *) say "$2: $line" ;;
             esac
         done
+    }
     [ "$(cat "$dir/status")" -eq 0 ] || say "$2: not all is proved: a time that is missing is -"
 )
 
@@ -208,6 +220,6 @@ awk -F '\t' -v timed="$SECONDS_TOO" -v machine="$(uname -m)" '
             printf "%s\n", names
         }
         if (still) print "Nothing moved in " still "."
-        if (timed) print (still ? "\n" : "") "The seconds are those of `rt prove`, from nothing and one crate at a time, on one " machine " machine."
+        if (timed) print (still ? "\n" : "") "The seconds are those of each crate in `rt ci --anew`, from nothing and one at a time, without tests and edits, on one " machine " machine."
     }' part='from crates' "$dir/from.crates" part='now crates' "$dir/now.crates" part='from seconds' "$dir/from.seconds" part='now seconds' "$dir/now.seconds" \
     part='from names' "$dir/from.names" part='now names' "$dir/now.names"

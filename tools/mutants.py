@@ -30,7 +30,7 @@ OPERATORS = {"<": "<=", "<=": "<", ">": ">=", ">=": ">", "==": "!=", "!=": "==",
              "&": "|", "|": "&", "&&": "||", "||": "&&", "+=": "-=", "-=": "+="}
 WORDS = {"true": "false", "false": "true", "leb": "ltb", "ltb": "leb", "take": "drop", "drop": "take", "not": "",
          "smallest": "largest", "largest": "smallest"}
-TOKEN = re.compile(r"""//[^\n]*|--[^\n]*|b"(?:[^"\\]|\\.)*"|b'.'|[A-Za-z_·][\w·'-]*|\d[\d_]*(?:[ui]\d+|usize)?|[<>=!+\-*/%&|]+|\S""")
+TOKEN = re.compile(r"""//[^\n]*|--[^\n]*|b"(?:[^"\\]|\\.)*"|b'.'|[A-Za-z_][\w'-]*|\d[\d_]*(?:[ui]\d+|usize)?|[<>=!+\-*/%&|]+|\S""")
 
 
 # Definitions that are the inputs of worked examples: another input is as good.
@@ -62,6 +62,16 @@ def crates():
         if colon:
             uses[name.strip()] = names.split()
     return uses
+
+
+def above(crate):
+    """the crates that use it, and those that use them, each behind those that it uses"""
+    uses, found, left = crates(), [crate], True
+    while left:
+        left = [name for name in uses if name not in found and any(below in found for below in uses[name])]
+        ready = [name for name in left if not any(below in left for below in uses[name])]
+        found += ready
+    return found[1:]
 
 
 def closed(text, at, pair="{}"):
@@ -234,30 +244,48 @@ def explained():
     return {tuple(part.replace("\\|", "|") for part in row[:3]) for row in rows if len(row) >= 3}
 
 
-def run(tree, *words):
-    return subprocess.run(["rt", *words], cwd=tree, text=True, stdout=subprocess.PIPE, stderr=subprocess.STDOUT, env={**os.environ, "RT_JOBS": "1"})
+def run(folder, *words, stdin=subprocess.DEVNULL):
+    return subprocess.run(["rt", *words], cwd=folder, text=True, stdin=stdin, stdout=subprocess.PIPE, stderr=subprocess.STDOUT)
+
+
+def check(tree, crate):
+    """the incremental check of a crate, over what it kept in out/ and what others on this machine kept of the crates below"""
+    return run(tree / "crates" / crate, "check", "--jobs", "1")
+
+
+# What rt must-fail calls refused only because a proof file names what is gone.
+NAMES = re.compile(r"(note: )?(\./)?proofs/.*(has no field|is not in scope|has no `|was not admitted)")
 
 
 def verdict(mutant, ended, out):
     """survived, refused, refused by the proof's shape, or no program at all"""
     if ended == 0:
         return "survived"
-    if ended != 1 or "logic=not-proved" not in out:
+    if ended != 1 or not re.search(r"^logic=not-proved", out, re.M):
         return "no program"
-    places = re.findall(r"^\S*?/(\w+/[\w/]+\.\w+):(\d+):\d+: error", out, re.M)
+    places = re.findall(r"^(?:\./)?((?:src|specs|proofs)/\S+?\.\w+):(\d+):\d+: error", out, re.M)
     if mutant.last_line and any(p == mutant.file and mutant.first_line <= int(n) <= mutant.last_line for p, n in places[:1]):
         return "no program"
-    return "shape" if re.search(r"can be named from here|expected type `tie\.Need-", out) else "refused"
+    told = [line for line in out.splitlines() if re.match(r"note: \S+:\d+:\d+:|\S+:\d+:\d+: error", line)]
+    return "shape" if told and all(map(NAMES.match, told)) else "refused"
 
 
-def checked(tree, *names):
-    """the status of a whole check, in a copy: what it leaves must not be taken for the tree's own"""
+def survives_above(tree, crate):
+    """whether all crates above are proved, in a copy, lowest first: what it leaves must not be taken for the tree's own"""
     copy = Path(tempfile.mkdtemp(dir=tree.parent)) / "tree"
     try:
-        shutil.copytree(tree, copy, ignore=shutil.ignore_patterns("inc"))
-        return run(copy, "check", *names).returncode
+        shutil.copytree(tree, copy, ignore=shutil.ignore_patterns("out"))
+        return all(check(copy, other).returncode == 0 for other in above(crate))
     finally:
         shutil.rmtree(copy.parent, ignore_errors=True)
+
+
+def prints_the_same(tree, crate):
+    """whether a program ends well on its stored input, and prints its stored output"""
+    folder = tree / "crates" / crate
+    given, stored = ((folder / name).read_bytes() if (folder / name).exists() else b"" for name in ("stdin", "stdout"))
+    done = subprocess.run(["rt", "run", "--jobs", "1"], cwd=folder, input=given, stdout=subprocess.PIPE, stderr=subprocess.DEVNULL)
+    return done.returncode == 0 and done.stdout == stored
 
 
 def tried(mutant, tree):
@@ -265,14 +293,14 @@ def tried(mutant, tree):
     text = path.read_text()
     path.write_text(text[:mutant.start] + mutant.new + text[mutant.end:])
     try:
-        done = run(tree, "dev", mutant.crate)
+        done = check(tree, mutant.crate)
         said = verdict(mutant, done.returncode, done.stdout)
         if said != "survived":
             return said
         if mutant.shared:
-            return "refused above" if checked(tree) else said
+            return said if survives_above(tree, mutant.crate) else "refused above"
         if (tree / "crates" / mutant.crate / "src" / "main.rt").exists():
-            return "another output" if checked(tree, mutant.crate) else said
+            return said if prints_the_same(tree, mutant.crate) else "another output"
         return said
     finally:
         path.write_text(text)
@@ -296,11 +324,11 @@ class Trees:
     def __init__(self, work):
         self.all, self.free, self.pool = [work / str(job) for job in range(JOBS)], Queue(), ThreadPoolExecutor(JOBS)
         for tree in self.all:
-            shutil.copytree(ROOT, tree, ignore=shutil.ignore_patterns(".git", "must-fail", "inc", "compare"))
+            shutil.copytree(ROOT, tree, ignore=shutil.ignore_patterns(".git", "must-fail", "out", "target"))
             self.free.put(tree)
 
     def ready(self, crate):
-        for done in self.pool.map(lambda tree: run(tree, "dev", crate), self.all):
+        for done in self.pool.map(lambda tree: check(tree, crate), self.all):
             if done.returncode:
                 sys.exit(f"mutants: {crate} is not proved as it stands:\n{done.stdout[-2000:]}")
 

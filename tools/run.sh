@@ -25,19 +25,13 @@ command -v rt >/dev/null 2>&1 || fail "no rt on the PATH: install the Rattle kit
 dir=$(mktemp -d) || exit 1
 trap 'rm -rf "$dir"' EXIT
 built=target/bin/$program
-crates=$(. tools/facts.sh && below "$program")
-# The crates' folders, of which must-fail/ is no part of the program.
-# shellcheck disable=SC2046
-stale() {
-    [ ! -x "$built" ] || [ -n "$(find $(echo "$crates" | sed 's,^,crates/,') crates.txt \( -name must-fail -o -name out \) -prune -o -newer "$built" -print)" ]
-}
 # Minutes of silence would look like a program that hangs: what is being proved, on standard error. A crate that was proved before has no line.
 told() {
     while IFS= read -r line; do
         case $line in 'rt: chose --jobs '*' for '*) say "${line##* for }" ;; esac
     done
 }
-if stale; then
+if sh tools/build.sh --stale "$program"; then
     say "$built is not there or older than its crates: they are proved and it is built, which may take some minutes"
     # what stands on standard input is the program's
     { sh tools/build.sh "$program" 2>&1 </dev/null; echo $? >"$dir/status"; } | tee "$dir/log" | told
@@ -46,8 +40,6 @@ if stale; then
         fail "the program can't be built: sh tools/build.sh $program"
     }
     [ -x "$built" ] || fail "all is proved and there is no $built: remove target/ and run this again"
-    # Where nothing but a file's time had changed it is the program still: nothing is asked or said the next time.
-    touch "$built" || exit 1
 fi
 
 # shellcheck source=tools/x86.sh
