@@ -1,7 +1,7 @@
 #!/usr/bin/env python3
 """Turns this repository's own definitions and lemmas to the spelling of today's Rattle: words in snake case, types and modules in camel case.
 
-usage: python3 tools/respell.py [FOLDER]     in a repository that /opt/rattle/port/port.py has turned, once
+usage: python3 tools/respell.py [FOLDER]     in a repository that the kit's port/port.py has turned, once
 
 It rewrites, in place, the .antt and .rt files below crates/: each word in lower camel case (all are names of definitions, of lemmas or of their
 variables; Rust's own names have none), the seven lemmas that would then have the name of a definition, and the names with a middle dot under which

@@ -1,6 +1,5 @@
 #!/bin/sh
-# Holds docs/STATEMENTS.md to the tree: each row that names a file and names in it must find them there. A name that a file of specs/ doesn't have
-# may stand in the crate's proofs/*.antt: a theorem on a definition that a must-fail edit changes.
+# Holds docs/STATEMENTS.md to the tree: each row that names a file and names in it must find them there.
 # A row is `| ID | file | name, name | .. |`; `open` in place of a file says that the statement is not proved yet.
 cd "$(dirname "$0")/.." || exit 1
 bad=0
@@ -11,11 +10,7 @@ while IFS='|' read -r _ id file names _; do
     [ "$file" != open ] || continue
     [ -f "$file" ] || { echo "statements: $id: no file $file"; bad=1; continue; }
     for name in $(echo "$names" | tr -d '`' | tr ',' ' '); do
-        named="^ *((unfoldable|abbrev|pub) )*((record|data) )?$name( |\$)"
-        grep -qE "$named" "$file" && continue
-        case $file in crates/*/specs/*.antt) cat "${file%%/specs/*}"/proofs/*.antt 2>/dev/null | grep -qE "$named" && continue ;; esac
-        echo "statements: $id: no $name in $file"
-        bad=1
+        grep -qE "^ *((unfoldable|abbrev|pub) )*((record|data) )?$name( |\$)" "$file" || { echo "statements: $id: no $name in $file"; bad=1; }
     done
     grep -q -- "$id" "$file" || { echo "statements: $file does not carry the id $id"; bad=1; }
 done <docs/STATEMENTS.md

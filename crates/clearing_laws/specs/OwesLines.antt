@@ -16,7 +16,7 @@ use Rattle.demands.specs.Sequences.{Act, Call}
 use Rattle.clearing_laws.specs.Runs.{after, run, Deal, deals_so_far, owed, member_at, cell_at, traded_so_far}
 use Rattle.clearing_laws.specs.Owed.{Owes}
 
--- the lines of members, worked out from a list of trades: for each what it bought of each, where that is not 0
+-- K5a's words: the lines of members, worked out from a list of trades: for each what it bought of each, where that is not 0
 abbrev pub bought_by : List ℕ → List Deal → ℕ → List ℕ
 bought_by ms deals buyer = texts (λ seller. owes_line buyer seller (owed buyer seller deals)) ms
 
