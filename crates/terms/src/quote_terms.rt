@@ -1,9 +1,8 @@
 // Quotes: a limited buy and a limited sell in one instruction (02 K2).
 ghost use Rattle.std.specs.Prelude.{◌≡◌};
-ghost use Rattle.terms.specs.declared.orders.Side.TheVariants.{Buy, Sell};
 ghost use Rattle.terms.specs.Quotes.{quote_side_of, quote_of, quote_order};
 
-use crate::kinds::{Member, MemberMade, Price, PriceMade, Quantity, QuantityMade};
+use crate::kinds::{Member, OutOfRange, Price, Quantity};
 use crate::orders::{Limit, Order, Side, Validity};
 
 // A side of a quote as it comes from outside: either field may hold any value.
@@ -28,23 +27,17 @@ pub struct QuoteSide {
     pub limit: Price,
 }
 
-#[derive(Clone, Copy)]
-pub enum QuoteSideMade {
-    Good(QuoteSide),
-    Refused,
-}
+impl TryFrom<SideEntry> for QuoteSide {
+    type Error = OutOfRange;
 
-impl QuoteSide {
-    pub fn new(e: SideEntry) -> QuoteSideMade
-        ensures { result ≡ quote_side_of e }
-    {
-        let QuantityMade::Good(quantity) = Quantity::new(e.quantity) else {
-            return QuoteSideMade::Refused;
-        };
-        let PriceMade::Good(limit) = Price::new(e.limit) else {
-            return QuoteSideMade::Refused;
-        };
-        QuoteSideMade::Good(QuoteSide { quantity, limit })
+    ghost try_from_gives = { λ e r. r ≡ quote_side_of e };
+
+    #[tactic(auto, unfolding(crate::specs::Quotes::quote_side_of))]
+    fn try_from(e: SideEntry) -> Result<QuoteSide, OutOfRange> {
+        Ok(QuoteSide {
+            quantity: Quantity::try_from(e.quantity)?,
+            limit: Price::try_from(e.limit)?,
+        })
     }
 }
 
@@ -56,59 +49,36 @@ pub struct Quote {
     pub ask: QuoteSide,
 }
 
-#[derive(Clone, Copy)]
-pub enum QuoteMade {
-    Good(Quote),
-    Refused,
+impl TryFrom<QuoteEntry> for Quote {
+    type Error = OutOfRange;
+
+    ghost try_from_gives = { λ e r. r ≡ quote_of e };
+
+    #[tactic(auto, unfolding(crate::specs::Quotes::quote_of, crate::specs::Quotes::quote_side_of))]
+    fn try_from(e: QuoteEntry) -> Result<Quote, OutOfRange> {
+        Ok(Quote {
+            member: Member::try_from(e.member)?,
+            bid: QuoteSide::try_from(e.bid)?,
+            ask: QuoteSide::try_from(e.ask)?,
+        })
+    }
 }
 
 impl Quote {
-    pub fn new(e: QuoteEntry) -> QuoteMade
-        ensures { result ≡ quote_of e }
+    // A side as an order: the bid a limited buy, the ask a limited sell, both of validity day.
+    pub fn order_on(self, side: Side) -> Order
+        ensures { result ≡ quote_order self side }
     {
-        let MemberMade::Good(member) = Member::new(e.member) else {
-            return QuoteMade::Refused;
+        let of_quote = match side {
+            Side::Buy => self.bid,
+            Side::Sell => self.ask,
         };
-        let QuoteSideMade::Good(bid) = QuoteSide::new(e.bid) else {
-            return QuoteMade::Refused;
-        };
-        let QuoteSideMade::Good(ask) = QuoteSide::new(e.ask) else {
-            return QuoteMade::Refused;
-        };
-        QuoteMade::Good(Quote { member, bid, ask })
-    }
-
-    // The bid as an order: a limited buy of validity day.
-    pub fn bid_order(self) -> Order
-        ensures { result ≡ quote_order self Buy }
-    {
-        let member = self.member;
-        let bid = self.bid;
-        let quantity = bid.quantity;
-        let limit = bid.limit;
         Order {
-            member,
-            side: Side::Buy,
+            member: self.member,
+            side,
             validity: Validity::Day,
-            quantity,
-            limit: Limit::At(limit),
-        }
-    }
-
-    // The ask: a limited sell.
-    pub fn ask_order(self) -> Order
-        ensures { result ≡ quote_order self Sell }
-    {
-        let member = self.member;
-        let ask = self.ask;
-        let quantity = ask.quantity;
-        let limit = ask.limit;
-        Order {
-            member,
-            side: Side::Sell,
-            validity: Validity::Day,
-            quantity,
-            limit: Limit::At(limit),
+            quantity: of_quote.quantity,
+            limit: Limit::At(of_quote.limit),
         }
     }
 }
