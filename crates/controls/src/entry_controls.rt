@@ -21,10 +21,11 @@ pub fn reaches_collar(reference: Price, factor: CollarFactor, limit: Limit) -> b
     match limit {
         Limit::Unlimited => false,
         Limit::At(p) => {
-            let times = factor.number() as u32;
+            let times = u32::from(factor.number());
             let middle = reference.number();
             let price = p.number();
-            (product(middle, times) <= price as u64) | (product(price, times) <= middle as u64)
+            (product(middle, times) <= u64::from(price))
+                | (product(price, times) <= u64::from(middle))
         }
     }
 }
