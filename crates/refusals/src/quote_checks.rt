@@ -1,15 +1,17 @@
 // The checks of a quote behind the first (02 K2): those of a day order, each on the bid and then on the ask.
-ghost use Rattle.std.specs.Prelude.{◌≡◌};
-ghost use Rattle.terms.specs.Quotes.{is_crossed};
+ghost use Rattle.std.specs.Prelude.{◌≡◌, Bool, ◌||◌};
+ghost use Rattle.terms.specs.Quotes.{is_crossed, quote_order};
+ghost use Rattle.terms.specs.declared.orders.Side.TheVariants.{Buy, Sell};
 ghost use Rattle.refusals.specs.Checks.{first_hit};
-ghost use Rattle.refusals.specs.Rows.{either_side, quote_later};
-ghost use Rattle.controls.specs.Controls.{off_step, reaches_collar, reaches_most, reaches_most_at_reference};
+ghost use Rattle.refusals.specs.Numbers.{number_answered};
+ghost use Rattle.refusals.specs.Rows.{quote_later};
 
+use crate::refusal::Refusal;
 use controls::{
     Phase, allows_order, has_started, off_step, reaches_collar, reaches_most,
     reaches_most_at_reference,
 };
-use terms::{CollarFactor, Limit, Number, OrderValue, Parameters, Price, Quote, Table, Validity};
+use terms::{Number, Order, Parameters, Price, Quote, Side, Validity};
 
 // Numbers that an accepted quote takes.
 pub const QUOTE_NUMBERS: u32 = 2;
@@ -18,60 +20,20 @@ pub const QUOTE_NUMBERS: u32 = 2;
 fn is_crossed(q: Quote) -> bool
     ensures { result ≡ is_crossed q }
 {
-    let bid = q.bid;
-    let low = bid.limit;
-    let ask = q.ask;
-    let high = ask.limit;
-    high.number() <= low.number()
+    q.ask.limit.number() <= q.bid.limit.number()
 }
 
-// 5
-fn either_off_step(table: Table, q: Quote) -> bool
-    ensures { result ≡ either_side (λ o. off_step table o.limit) q }
+// One of a quote's two orders hits: the bid or the ask.
+fn either_side<F: Fn(Order) -> bool>(q: Quote, hits: F) -> bool
+    requires { F.IsAlwaysCallable hits }
+    ensures { (bid ask : Bool) × F.post hits (quote_order q Buy) bid × F.post hits (quote_order q Sell) ask × (result ≡ (bid || ask)) }
 {
-    let bid = q.bid;
-    let low = bid.limit;
-    let ask = q.ask;
-    let high = ask.limit;
-    off_step(table, Limit::At(low)) | off_step(table, Limit::At(high))
-}
-
-// 6
-fn either_reaches_collar(reference: Price, factor: CollarFactor, q: Quote) -> bool
-    ensures { result ≡ either_side (λ o. reaches_collar reference factor o.limit) q }
-{
-    let bid = q.bid;
-    let low = bid.limit;
-    let ask = q.ask;
-    let high = ask.limit;
-    reaches_collar(reference, factor, Limit::At(low))
-        | reaches_collar(reference, factor, Limit::At(high))
-}
-
-// 7
-fn either_reaches_most(most: OrderValue, q: Quote) -> bool
-    ensures { result ≡ either_side (λ o. reaches_most most o.quantity o.limit) q }
-{
-    let bid = q.bid;
-    let low = bid.limit;
-    let ask = q.ask;
-    let high = ask.limit;
-    reaches_most(most, bid.quantity, Limit::At(low))
-        | reaches_most(most, ask.quantity, Limit::At(high))
-}
-
-// 8
-fn either_reaches_most_at_reference(most: OrderValue, reference: Price, q: Quote) -> bool
-    ensures { result ≡ either_side (λ o. reaches_most_at_reference most o.quantity reference) q }
-{
-    let bid = q.bid;
-    let ask = q.ask;
-    reaches_most_at_reference(most, bid.quantity, reference)
-        | reaches_most_at_reference(most, ask.quantity, reference)
+    hits(q.order_on(Side::Buy)) | hits(q.order_on(Side::Sell))
 }
 
 // Which refusal a quote gets, by the reference price of the controls, the last number given and whether fewer than two places are free
 // once the member's old quote is gone. beyond: an entry by a thirty-third member, where the square is kept; false in a plain session (02 K5).
+#[tactic(auto, unfolding(crate::specs::Checks::first_hit))]
 pub fn quote_refusal(
     phase: Phase,
     p: Parameters,
@@ -80,38 +42,19 @@ pub fn quote_refusal(
     given: u32,
     short: bool,
     q: Quote,
-) -> u8
-    ensures { result ≡ first_hit (quote_later phase p reference beyond given short q) }
+) -> Result<(), Refusal>
+    ensures { number_answered result ≡ first_hit (quote_later phase p reference beyond given short q) }
 {
-    if is_crossed(q) {
-        return 13;
-    }
-    if !has_started(phase) {
-        return 2;
-    }
-    if !allows_order(phase, Validity::Day) {
-        return 4;
-    }
-    if either_off_step(p.table, q) {
-        return 5;
-    }
-    if either_reaches_collar(reference, p.factor, q) {
-        return 6;
-    }
-    if either_reaches_most(p.most, q) {
-        return 7;
-    }
-    if either_reaches_most_at_reference(p.most, reference, q) {
-        return 8;
-    }
-    if beyond {
-        return 16;
-    }
-    if Number::MAX - QUOTE_NUMBERS < given {
-        return 9;
-    }
-    if short {
-        return 10;
-    }
-    0
+    Refusal::Crossed.when(is_crossed(q))?;
+    Refusal::NotStarted.when(!has_started(phase))?;
+    Refusal::PhaseForbids.when(!allows_order(phase, Validity::Day))?;
+    Refusal::OffStep.when(either_side(q, |o| off_step(p.table, o.limit)))?;
+    Refusal::ReachesCollar.when(either_side(q, |o| reaches_collar(reference, p.factor, o.limit)))?;
+    Refusal::ReachesMost.when(either_side(q, |o| reaches_most(p.most, o.quantity, o.limit)))?;
+    Refusal::ReachesMostAtReference.when(either_side(q, |o| {
+        reaches_most_at_reference(p.most, o.quantity, reference)
+    }))?;
+    Refusal::MembersEntered.when(beyond)?;
+    Refusal::NumbersGiven.when(Number::MAX - QUOTE_NUMBERS < given)?;
+    Refusal::PlacesTaken.when(short)
 }
