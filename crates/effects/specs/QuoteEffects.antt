@@ -1,5 +1,5 @@
 -- What a quote changes, from the parts of a session that decide it (02 K2).
-use Rattle.std.specs.Prelude.{ℕ, ◌+◌, ◌≤◌, ◌<◌, Bool, true, false, not, cond, ◌≢◌, refl, List, ltb}
+use Rattle.std.specs.Prelude.{ℕ, ◌+◌, ◌≤◌, ◌<◌, Bool, true, false, not, cond, ◌≢◌, refl, List, ltb, Result, Ok, Err}
 use Rattle.std.proofs.Math.Path.{◌≡◌}
 use Rattle.std.proofs.Common.{sym, ap, subst, ◌∙◌, arith}
 use borrow.Author.Tests.{ltb-true, ltb-false, not-false, le-ltb}
@@ -21,7 +21,7 @@ use Rattle.controls.specs.declared.phases.{Phase.Phase}
 use Rattle.refusals.specs.Checks.{Check, first_hit, answered, answered-refused, answered-done, answered-cases, hits, passes}
 use Rattle.refusals.specs.Rows.{quote_rows, quote_later}
 use Rattle.refusals.specs.Exactly.{clear}
-use Rattle.effects.specs.declared.quoting.{QuoteChange.QuoteChange, QuoteEffect.QuoteEffect}
+use Rattle.effects.specs.declared.quoting.{QuoteChange.QuoteChange}
 
 -- the words once the old sides are gone
 abbrev pub freed_words : List ℕ → Pair → List ℕ
@@ -50,9 +50,9 @@ quote_change given taken old q = record {
 }
 
 -- beyond: an entry by a thirty-third member, where the square is kept; false in a plain session (02 K5)
-unfoldable pub quote_effect : Phase → Parameters → Price → Bool → ℕ → List ℕ → Pair → QuoteEntry → QuoteEffect
+unfoldable pub quote_effect : Phase → Parameters → Price → Bool → ℕ → List ℕ → Pair → QuoteEntry → Result QuoteChange ℕ
 quote_effect phase p reference beyond given taken old e =
-    answered (quote_rows phase p reference beyond given (is_short (freed_words taken old)) e) QuoteEffect.Refused (QuoteEffect.Done (quote_change given taken old (quote_from e)))
+    answered (quote_rows phase p reference beyond given (is_short (freed_words taken old)) e) Err (Ok (quote_change given taken old (quote_from e)))
 
 -- what every change of a quote has: both sides are marked as such and of one member, the bid is a buy and the ask a sell
 pub record TwoSides (c : QuoteChange) : Type 0 where
@@ -63,19 +63,19 @@ pub record TwoSides (c : QuoteChange) : Type 0 where
   pub sells : c.ask.side ≡ 2
 
 pub two-sides : (phase : Phase) (p : Parameters) (reference : Price) (beyond : Bool) (given : ℕ) (taken : List ℕ) (old : Pair) (e : QuoteEntry) {c : QuoteChange}
-    → quote_effect phase p reference beyond given taken old e ≡ QuoteEffect.Done c → TwoSides c
+    → quote_effect phase p reference beyond given taken old e ≡ Ok c → TwoSides c
 unfolding quote_effect
 two-sides phase p reference beyond given taken old e {c} =
-    answered-cases (quote_rows phase p reference beyond given (is_short (freed_words taken old)) e) QuoteEffect.Refused (QuoteEffect.Done done) (λ (f : QuoteEffect). f ≡ QuoteEffect.Done c → TwoSides c)
-    (λ n h i k. absurd (let z : ◌≡◌ {A = ℕ} 0 1 = cc in omega arith))
+    answered-cases (quote_rows phase p reference beyond given (is_short (freed_words taken old)) e) Err (Ok done) (λ (f : Result QuoteChange ℕ). f ≡ Ok c → TwoSides c)
+    (λ n h i k. absurd cc)
     (λ i k. subst TwoSides (ap (change_or done) k) (record { bid-marked = refl; ask-marked = refl; one-member = refl; buys = refl; sells = refl }))
   where
     done : QuoteChange
     done = quote_change given taken old (quote_from e)
 
-    change_or : QuoteChange → QuoteEffect → QuoteChange
-    change_or d (QuoteEffect.Refused n) = d
-    change_or d (QuoteEffect.Done c) = c
+    change_or : QuoteChange → Result QuoteChange ℕ → QuoteChange
+    change_or d (Err n) = d
+    change_or d (Ok c) = c
 
 -- ---- from what the code learns on the way
 module _ (phase : Phase) (p : Parameters) (reference : Price) (beyond : Bool) (given : ℕ) (taken : List ℕ) (old : Pair) (e : QuoteEntry) where
@@ -91,16 +91,16 @@ module _ (phase : Phase) (p : Parameters) (reference : Price) (beyond : Bool) (g
       (lowest-free-room (freed_words taken old) (λ i. omega (arith, ltb-false places (count_taken (freed_words taken old) + 2) h)), second)
 
   -- a quote that is done is not beyond
-  pub quote-not-beyond : {c : QuoteChange} → quote_effect phase p reference beyond given taken old e ≡ QuoteEffect.Done c → beyond ≡ false
+  pub quote-not-beyond : {c : QuoteChange} → quote_effect phase p reference beyond given taken old e ≡ Ok c → beyond ≡ false
   unfolding quote_effect
   quote-not-beyond {c} =
-      answered-cases rows QuoteEffect.Refused (QuoteEffect.Done (quote_change given taken old (quote_from e))) (λ (f : QuoteEffect). f ≡ QuoteEffect.Done c → beyond ≡ false)
-      (λ n h i k. absurd (let z : ◌≡◌ {A = ℕ} 0 1 = cc in omega arith))
+      answered-cases rows Err (Ok (quote_change given taken old (quote_from e))) (λ (f : Result QuoteChange ℕ). f ≡ Ok c → beyond ≡ false)
+      (λ n h i k. absurd cc)
       (λ i k. clear rows tt i 16)
 
-  pub quote-out-of-range : is_quote e ≡ false → QuoteEffect.Refused 1 ≡ quote_effect phase p reference beyond given taken old e
+  pub quote-out-of-range : is_quote e ≡ false → Err 1 ≡ quote_effect phase p reference beyond given taken old e
   unfolding quote_effect
-  quote-out-of-range h = answered-refused rows QuoteEffect.Refused _ (hits 1 _ (rw h)) (λ z. omega arith)
+  quote-out-of-range h = answered-refused rows Err _ (hits 1 _ (rw h)) (λ z. omega arith)
 
   module _ {q : Quote} (good : (is_quote e ≡ true) × (q ≡ quote_from e)) {fresh : Pair} {n : ℕ} {left : Bool} (is-fresh : fresh ≡ fresh_pair taken old) (is-left : left ≡ is_place fresh.ask)
       (hit : n ≡ first_hit (quote_later phase p reference beyond given (not left) q)) where
@@ -111,15 +111,15 @@ module _ (phase : Phase) (p : Parameters) (reference : Price) (beyond : Bool) (g
     quote-hit : n ≡ first_hit rows
     quote-hit = passes 1 _ (rw good.0) (rw (good.1, quote-short) at hit)
 
-    pub quote-turned-down : n ≢ 0 → QuoteEffect.Refused n ≡ quote_effect phase p reference beyond given taken old e
+    pub quote-turned-down : n ≢ 0 → Err n ≡ quote_effect phase p reference beyond given taken old e
     unfolding quote_effect
-    quote-turned-down h = answered-refused rows QuoteEffect.Refused _ quote-hit h
+    quote-turned-down h = answered-refused rows Err _ quote-hit h
 
     module _ (z : n ≡ 0) where
       pub numbers-left : given + 2 ≤ max_number
       numbers-left = ltb-false max_number (given + 2) (clear rows tt (sym z ∙ quote-hit) 9)
 
       pub quote-done : {bid ask : Values} → bid ≡ values_of (resting_as (given + 1) true (quote_order q Buy)) → ask ≡ values_of (resting_as (given + 2) true (quote_order q Sell))
-          → QuoteEffect.Done (record { given = given + 2; old = old; fresh = fresh; bid = bid; ask = ask }) ≡ quote_effect phase p reference beyond given taken old e
+          → Ok (record { given = given + 2; old = old; fresh = fresh; bid = bid; ask = ask }) ≡ quote_effect phase p reference beyond given taken old e
       unfolding quote_effect
-      quote-done b a = rw (b, a, is-fresh, good.1) (answered-done rows QuoteEffect.Refused (QuoteEffect.Done (quote_change given taken old (quote_from e))) (sym z ∙ quote-hit))
+      quote-done b a = rw (b, a, is-fresh, good.1) (answered-done rows Err (Ok (quote_change given taken old (quote_from e))) (sym z ∙ quote-hit))

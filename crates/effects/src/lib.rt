@@ -5,15 +5,15 @@
 mod quoting;
 
 ghost use Rattle.std.specs.Prelude.{◌≡◌};
+ghost use Rattle.refusals.specs.Numbers.{numbered_answer};
 ghost use Rattle.effects.specs.Effects.{order_effect, delete_effect};
 
 use book::Values;
 use controls::Phase;
 use places::{WORD_PLACES, WORDS, with_bit, without_bit};
-pub use quoting::{QuoteChange, QuoteEffect, quote_effect};
-use terms::{
-    Entry, Member, MemberMade, Number, NumberMade, Order, OrderMade, Parameters, Place, Price,
-};
+pub use quoting::{QuoteChange, quote_effect};
+use refusals::Refusal;
+use terms::{Entry, Member, Number, Order, Parameters, Place, Price};
 
 // The last number given, a word of the places, and the values at a place.
 #[derive(Clone, Copy)]
@@ -22,12 +22,6 @@ pub struct Change {
     pub place: usize,
     pub word: u64,
     pub values: Values,
-}
-
-#[derive(Clone, Copy)]
-pub enum Effect {
-    Refused(u8),
-    Done(Change),
 }
 
 // Order: refusals 1, 2, 4, 5, 6, 7, 8, 16, 9, 10. An accepted order takes the next number and the lowest free place.
@@ -40,25 +34,20 @@ pub fn order_effect(
     given: u32,
     taken: &[u64; WORDS],
     e: Entry,
-) -> Effect
-    ensures { result ≡ order_effect phase parameters reference beyond given taken.now e }
+) -> Result<Change, Refusal>
+    ensures { numbered_answer result ≡ order_effect phase parameters reference beyond given taken.now e }
 {
-    let OrderMade::Good(o) = Order::new(e) else {
-        return Effect::Refused(1);
-    };
+    let order = Order::try_from(e)?;
     let place = places::lowest_free(taken);
     let left = Place::holds(place);
-    let answer = refusals::order_refusal(phase, parameters, reference, beyond, given, !left, o);
-    if answer != 0 {
-        return Effect::Refused(answer);
-    }
+    refusals::order_refusal(phase, parameters, reference, beyond, given, !left, order)?;
     let number = given + 1;
     let word = with_bit(taken[place / WORD_PLACES], place % WORD_PLACES);
-    Effect::Done(Change {
+    Ok(Change {
         given: number,
         place,
         word,
-        values: book::values_of(number, false, o),
+        values: book::values_of(number, false, order),
     })
 }
 
@@ -70,21 +59,14 @@ pub fn delete_effect(
     place: usize,
     number: u32,
     member: u16,
-) -> Effect
-    ensures { result ≡ delete_effect phase given taken.now place number member }
+) -> Result<Change, Refusal>
+    ensures { numbered_answer result ≡ delete_effect phase given taken.now place number member }
 {
-    let NumberMade::Good(_) = Number::new(number) else {
-        return Effect::Refused(1);
-    };
-    let MemberMade::Good(_) = Member::new(member) else {
-        return Effect::Refused(1);
-    };
-    let answer = refusals::delete_refusal(phase, place);
-    if answer != 0 {
-        return Effect::Refused(answer);
-    }
+    Number::try_from(number)?;
+    Member::try_from(member)?;
+    refusals::delete_refusal(phase, place)?;
     let word = without_bit(taken[place / WORD_PLACES], place % WORD_PLACES);
-    Effect::Done(Change {
+    Ok(Change {
         given,
         place,
         word,

@@ -1,13 +1,14 @@
 // What a quote changes (02 K2).
 ghost use Rattle.std.specs.Prelude.{◌≡◌};
+ghost use Rattle.refusals.specs.Numbers.{numbered_answer};
 ghost use Rattle.effects.specs.QuoteEffects.{fresh_pair, quote_effect};
 
 use book::Values;
 use controls::Phase;
 use places::{WORDS, lowest_free, mark, unmark};
 use quotes::Pair;
-use refusals::QUOTE_NUMBERS;
-use terms::{Parameters, Place, Price, Quote, QuoteEntry, QuoteMade};
+use refusals::{QUOTE_NUMBERS, Refusal};
+use terms::{Parameters, Place, Price, Quote, QuoteEntry, Side};
 
 // The last number given, where the old sides stood, the new ones, and where they stand. It begins as `Change` is laid out, so that
 // where either may come both travel in registers.
@@ -18,12 +19,6 @@ pub struct QuoteChange {
     pub bid: Values,
     pub ask: Values,
     pub fresh: Pair,
-}
-
-#[derive(Clone, Copy)]
-pub enum QuoteEffect {
-    Refused(u8),
-    Done(QuoteChange),
 }
 
 // The two lowest places that are free once the old sides are gone; 512 where there are fewer.
@@ -50,21 +45,16 @@ pub fn quote_effect(
     taken: &[u64; WORDS],
     old: Pair,
     e: QuoteEntry,
-) -> QuoteEffect
-    ensures { result ≡ quote_effect phase parameters reference beyond given taken.now old e }
+) -> Result<QuoteChange, Refusal>
+    ensures { numbered_answer result ≡ quote_effect phase parameters reference beyond given taken.now old e }
 {
-    let QuoteMade::Good(q) = Quote::new(e) else {
-        return QuoteEffect::Refused(1);
-    };
+    let quote = Quote::try_from(e)?;
     let fresh = fresh_pair(taken, old);
     let left = Place::holds(fresh.ask);
-    let answer = refusals::quote_refusal(phase, parameters, reference, beyond, given, !left, q);
-    if answer != 0 {
-        return QuoteEffect::Refused(answer);
-    }
-    let bid = book::values_of(given + 1, true, q.bid_order());
-    let ask = book::values_of(given + QUOTE_NUMBERS, true, q.ask_order());
-    QuoteEffect::Done(QuoteChange {
+    refusals::quote_refusal(phase, parameters, reference, beyond, given, !left, quote)?;
+    let bid = book::values_of(given + 1, true, quote.order_on(Side::Buy));
+    let ask = book::values_of(given + QUOTE_NUMBERS, true, quote.order_on(Side::Sell));
+    Ok(QuoteChange {
         given: given + QUOTE_NUMBERS,
         old,
         bid,

@@ -1,5 +1,6 @@
 -- Numbers: 01 "Refusals by number". Each refusal's number, and the number that an answer has.
-use Rattle.std.specs.Prelude.{ℕ, Bool, cond, Result, Ok, Err}
+use Rattle.std.specs.Prelude.{ℕ, Bool, cond, Result, Ok, Err, ◌≢◌}
+use Rattle.std.proofs.Common.{arith}
 use Rattle.refusals.specs.declared.refusal.Refusal.{Refusal}
 use Rattle.refusals.specs.declared.refusal.Refusal.TheVariants.{OutOfRange, NotStarted, Started, PhaseForbids, OffStep, ReachesCollar, ReachesMost, ReachesMostAtReference, NumbersGiven, PlacesTaken, NoSuchOrder, TooShort, Crossed, MembersEntered}
 
@@ -32,3 +33,20 @@ number_answered (Err r) = refusal_number r
 abbrev pub numbered_answer : {A : Type 0} → Result A Refusal → Result A ℕ
 numbered_answer (Ok a) = Ok a
 numbered_answer (Err r) = Err (refusal_number r)
+
+-- every refusal's number is above 0
+pub refusal-number-above : (r : Refusal) → refusal_number r ≢ 0
+refusal-number-above OutOfRange e = omega arith
+refusal-number-above NotStarted e = omega arith
+refusal-number-above Started e = omega arith
+refusal-number-above PhaseForbids e = omega arith
+refusal-number-above OffStep e = omega arith
+refusal-number-above ReachesCollar e = omega arith
+refusal-number-above ReachesMost e = omega arith
+refusal-number-above ReachesMostAtReference e = omega arith
+refusal-number-above NumbersGiven e = omega arith
+refusal-number-above PlacesTaken e = omega arith
+refusal-number-above NoSuchOrder e = omega arith
+refusal-number-above TooShort e = omega arith
+refusal-number-above Crossed e = omega arith
+refusal-number-above MembersEntered e = omega arith

@@ -1,34 +1,44 @@
-use mathlib.Core.Bool.{true}
-use mathlib.Core.Path.{◌≡◌, sym, ◌∙◌}
-use native.Mathlib.Omega.{arith}
-use borrow.Author.Rules.{rules}
+use mathlib.Core.Path.{refl}
+use Rattle.std.proofs.Common.{arith}
+use Rattle.std.proofs.lemmas.Result.{err_from_is_err_and}
 use Rattle.terms.proofs.Made.{order-good, order-refused}
-use Rattle.terms.specs.Orders.{is_entry, order_from}
+use Rattle.refusals.specs.Numbers.{refusal-number-above}
 use Rattle.effects.specs.Effects.{order-out-of-range, order-turned-down, number-left, place-left, order-done}
 use Rattle.effects.proofs.order_effect.Goals as goal
-use Rattle.effects.proofs.order_effect.Goals.{In-Good}
 
--- the order is the one that the entry asks for
-good : (c : In-Good) → let e = c.args.e in (is_entry e ≡ true) × (c.in-Good.o ≡ order_from e)
-good c = order-good c.args.e (sym c.in-Good.is ∙ c.new.ensures)
+pub returns-in_err-order : goal.returns-in_err-order
+returns-in_err-order c =
+    let a = c.args in
+    let p = err_from_is_err_and c.from_residual.result c.from_residual.ensures.1 in
+    rw (p.1, p.2) (order-out-of-range a.phase a.parameters a.reference a.beyond a.given a.taken.now a.e (order-refused a.e c.in_err-order.ensures))
 
-pub returns-in_default : goal.returns-in_default
-returns-in_default c = let a = c.args in
-    order-out-of-range a.phase a.parameters a.reference a.beyond a.given a.taken.now a.e (order-refused a.e (sym c.in_default.is ∙ c.new.ensures))
-
-pub returns-then-answer-ne0 : goal.returns-then-answer-ne0
-returns-then-answer-ne0 c = let a = c.args in
-    order-turned-down a.phase a.parameters a.reference a.beyond a.given a.taken.now a.e (good (goal.at.returns-then-answer-ne0 c).In-Good) c.lowest_free-place.ensures c.holds-left.ensures c.order_refusal-answer.ensures c.if-answer-ne0.true
+pub returns-in_err-order_refusal : goal.returns-in_err-order_refusal
+returns-in_err-order_refusal c =
+    let a = c.args in
+    let p = err_from_is_err_and c.from_residual-in_err-order_refusal.result c.from_residual-in_err-order_refusal.ensures.1 in
+    rw (p.1, p.2) (order-turned-down a.phase a.parameters a.reference a.beyond a.given a.taken.now a.e (order-good a.e c.in_ok-order.ensures)
+    c.lowest_free-place.ensures c.holds-left.ensures c.in_err-order_refusal.ensures (refusal-number-above _))
 
 pub overflow_add-number : goal.overflow_add-number
-overflow_add-number c = let a = c.args in
-    omega (arith, number-left a.phase a.parameters a.reference a.beyond a.given a.taken.now a.e (good (goal.at.overflow_add-number c).In-Good) c.lowest_free-place.ensures c.holds-left.ensures c.order_refusal-answer.ensures c.if-answer-ne0.false)
+overflow_add-number c =
+    let a = c.args in
+    omega (
+      arith,
+      number-left a.phase a.parameters a.reference a.beyond a.given a.taken.now a.e (order-good a.e c.in_ok-order.ensures)
+          c.lowest_free-place.ensures c.holds-left.ensures c.in_ok-order_refusal.ensures refl,
+    )
 
 pub bounds-taken-place : goal.bounds-taken-place
-bounds-taken-place c = let a = c.args in
-    omega (arith, place-left a.phase a.parameters a.reference a.beyond a.given a.taken.now a.e (good (goal.at.bounds-taken-place c).In-Good) c.lowest_free-place.ensures c.holds-left.ensures c.order_refusal-answer.ensures c.if-answer-ne0.false)
+bounds-taken-place c =
+    let a = c.args in
+    omega (
+      arith,
+      place-left a.phase a.parameters a.reference a.beyond a.given a.taken.now a.e (order-good a.e c.in_ok-order.ensures)
+          c.lowest_free-place.ensures c.holds-left.ensures c.in_ok-order_refusal.ensures refl,
+    )
 
 pub returns : goal.returns
-returns c = let a = c.args in
-    order-done a.phase a.parameters a.reference a.beyond a.given a.taken.now a.e (good (goal.at.returns c).In-Good) c.lowest_free-place.ensures c.holds-left.ensures c.order_refusal-answer.ensures c.if-answer-ne0.false
-    c.with_bit-word.ensures c.values_of.ensures
+returns c =
+    let a = c.args in
+    order-done a.phase a.parameters a.reference a.beyond a.given a.taken.now a.e (order-good a.e c.in_ok-order.ensures)
+    c.lowest_free-place.ensures c.holds-left.ensures c.in_ok-order_refusal.ensures refl c.with_bit-word.ensures c.values_of.ensures
