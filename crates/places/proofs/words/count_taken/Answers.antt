@@ -1,14 +1,11 @@
-use Prim.Native.Nat.{◌*◌, ◌-◌, ◌≤◌}
-use mathlib.Core.Path.{◌≡◌}
 use borrow.Author.Rules.{rules}
-use native.Mathlib.Omega.{arith}
-use Rattle.places.specs.Places.{bit_at, total}
+use Rattle.places.specs.Places.{total}
 use Rattle.places.specs.Words.{total-word}
 use Rattle.places.proofs.words.count_taken.Goals as goal
 
-pub loop-j-init : goal.loop-j-init
+pub loop-word-init : goal.loop-word-init
 unfolding total
-loop-j-init c = search rules
+loop-word-init c = search rules
 
-pub loop-j-preserved : goal.loop-j-preserved
-loop-j-preserved c = (search rules, rw total-word (cc), search rules)
+pub loop-word-preserved : goal.loop-word-preserved
+loop-word-preserved c = (rw total-word (cc), search rules)
