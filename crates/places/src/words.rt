@@ -46,11 +46,7 @@ pub fn lowest_free(taken: &[u64; WORDS]) -> usize
 pub fn count_taken(taken: [u64; WORDS]) -> usize
     ensures { result ≡ count_taken taken }
 {
-    let mut n: usize = 0;
-    for word in taken {
-        n += set_bits(word);
-    }
-    n
+    taken.iter().map(|word| set_bits(*word)).sum()
 }
 
 // Behind the last word with a taken place: from there on all places are free.

@@ -1,5 +1,5 @@
 -- The loop's invariant: the words from j on have no taken place.
-use Rattle.std.proofs.Common.{◌≡◌, ◌≤◌}
+use Rattle.std.proofs.Common.{◌≡◌}
 use Rattle.places.specs.Places.{words_taken}
 use Rattle.places.proofs.words.behind_taken.Given as goal
 

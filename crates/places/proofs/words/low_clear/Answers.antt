@@ -1,4 +1,3 @@
-use Rattle.std.proofs.Common.{arith}
 use borrow.Author.Rules.{rules}
 use lib.Count.{trailing_le}
 use Rattle.places.specs.Words.{low-set, low_clear}

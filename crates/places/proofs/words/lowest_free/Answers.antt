@@ -1,4 +1,4 @@
-use Rattle.std.proofs.Common.{◌+◌, ◌*◌, arith}
+use Rattle.std.proofs.Common.{arith}
 use Rattle.places.specs.Words.{full-word, lowest-free-found, lowest-free-none}
 use Rattle.places.proofs.words.lowest_free.Goals as goal
 
