@@ -1,5 +1,5 @@
 -- Shares are the quantities of `fill`, and a column less the shares has less by what the orders are filled with.
-use Rattle.std.specs.Prelude.{ℕ, zero, suc, ◌+◌, ◌-◌, ◌<◌, min, Bool, true, false, ◌≡◌, refl, List, [], ◌∷◌, map, eqb, length, get_or, set, take}
+use Rattle.std.specs.Prelude.{ℕ, zero, suc, ◌-◌, ◌<◌, min, Bool, true, false, ◌≡◌, refl, List, [], ◌∷◌, map, eqb, length, get_or, set, take}
 use Rattle.std.proofs.Common.{sym, ap, ◌∙◌, arith, eqb-true, length-set, get_or-set_same, get_or-set_other}
 use mathlib.Core.List.Memᴰ
 use Rattle.std.proofs.lemmas.Bool.{eqb-false}

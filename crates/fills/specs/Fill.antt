@@ -1,17 +1,7 @@
 -- Filling: 01 "Outcomes", "both sides are filled in rank order up to the executable quantity".
-use Rattle.std.specs.Prelude.{ℕ, zero, suc, ◌+◌, ◌-◌, ◌≤◌, ◌<◌, min, Bool, true, false, ◌≢◌, ◌≡◌, refl, List, [], ◌∷◌, T, eqb, ltb, length}
-use Rattle.std.proofs.Common.{⊎_elim, sym, ap, subst, subst₂, ◌∙◌, arith, ne_eqb}
-use mathlib.Core.List.Memᴰ
-use Rattle.std.proofs.Math.Dec.{eqb_refl}
-use Rattle.lists.specs.Tests.{tests, decided, passes}
-use Rattle.lists.specs.Sums.{◌∈◌, counted, counted-add, counted-cut, counted-nothing, counted-pass, sum, sum-add, sum-none, sum_same}
-use Rattle.lists.specs.Ranking.{Ranked}
+use Rattle.std.specs.Prelude.{ℕ, zero, suc, ◌-◌, min, Bool, List, [], ◌∷◌, T, eqb}
+use Rattle.lists.specs.Sums.{◌∈◌, counted, sum}
 use Rattle.terms.specs.Orders.{Resting}
-use Rattle.terms.specs.declared.orders.{Side.Side}
-use Rattle.queue.specs.Distinct.{Distinct}
-use Rattle.queue.proofs.Distinct.{distinct-one}
-use Rattle.queue.specs.Rank.{ahead}
-use Rattle.queue.proofs.Rank.{ahead-irrefl, ahead-trans}
 
 -- what an order gets
 pub record Fill : Type 0 where

@@ -1,7 +1,5 @@
 -- Filled front: 01 "Outcomes", last paragraph.
-use Rattle.std.specs.Prelude.{ℕ, zero, suc, ◌+◌, ◌-◌, ◌≤◌, ◌<◌, Bool, true, false, cond, ◌≡◌, refl, List, [], ◌∷◌, leb, length, get_or, take, drop}
-use Rattle.std.proofs.Common.{ap, add-one, arith, le-leb, leb-true, leb-false, drop_of_length-le, drop-cons}
-use Rattle.std.proofs.lemmas.Bool.{lt-leb}
+use Rattle.std.specs.Prelude.{ℕ, ◌-◌, ◌≤◌, ◌<◌, cond, ◌≡◌, List, [], ◌∷◌, leb, length, take}
 use Rattle.lists.specs.Sums.{sum}
 
 -- the longest front part whose sum is at most the total

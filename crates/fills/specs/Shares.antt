@@ -1,7 +1,5 @@
 -- Shares along a queue, over its open quantities alone: what each order gets of a total.
-use Rattle.std.specs.Prelude.{ℕ, zero, suc, ◌+◌, ◌-◌, ◌<◌, ◌≤◌, min, ◌≢◌, ◌≡◌, refl, List, [], ◌∷◌, ◌++◌, map, length, get_or, set, take, drop}
-use Rattle.std.proofs.Common.{sym, ap, ◌∙◌, append-nil, add-one, arith, drop_of_length-le, take-suc-set, drop-cons}
-use Rattle.std.proofs.Math.Seq.{append_snoc}
+use Rattle.std.specs.Prelude.{ℕ, zero, suc, ◌-◌, min, List, [], ◌∷◌, get_or, set}
 use Rattle.queue.specs.RankNumbers.{place_of_rank}
 
 -- the quantities of `fill`

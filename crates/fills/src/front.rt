@@ -7,14 +7,11 @@ pub fn front_length(entries: &[u64], total: u64) -> usize
     ensures { result ≡ length (front total entries.now) }
 {
     let mut rest = total;
-    let mut i: usize = 0;
-    while i < entries.len() {
-        let x = entries[i];
+    for (i, &x) in entries.iter().enumerate() {
         if rest < x {
             return i;
         }
         rest -= x;
-        i += 1;
     }
-    i
+    entries.len()
 }

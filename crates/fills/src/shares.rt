@@ -1,5 +1,5 @@
 // Shares along a ranked queue: what its orders have open, and what each gets of a total.
-ghost use Rattle.std.specs.Prelude.{◌≡◌, ◌-◌, ◌≤◌, min, length, get_or, take};
+ghost use Rattle.std.specs.Prelude.{◌≡◌, ◌≤◌, min, length, get_or, take};
 ghost use Rattle.queue.specs.RankNumbers.{place_of_rank, along};
 ghost use Rattle.fills.specs.Shares.{shares_of, lessened};
 ghost use Rattle.terms.specs.Bounds.{places};
@@ -11,26 +11,14 @@ use terms::Place;
 pub fn left_at(lefts: &[u32; Place::COUNT], r: u64) -> u32
     ensures { result ≡ get_or lefts.now (place_of_rank r) 0 }
 {
-    let place = place_of_rank(r);
-    lefts[place]
+    lefts[place_of_rank(r)]
 }
 
 // What an order gets of a total: all that it has open, or what there is.
 fn share_of(total: u64, left: u32) -> u32
     ensures { result ≡ min total left }
 {
-    if total <= left as u64 {
-        total as u32
-    } else {
-        left
-    }
-}
-
-// Never below nothing.
-fn less(left: u32, share: u32) -> u32
-    ensures { result ≡ left - share }
-{
-    if share <= left { left - share } else { 0 }
+    total.min(u64::from(left)) as u32
 }
 
 // What the orders of a queue get of a total, the first of it first, from the front of a list; how many get anything.
@@ -44,28 +32,24 @@ pub fn share_out<'a>(
     ensures { (result ≤ length ranks.now) × (take result list.new ≡ shares_of total (along lefts.now ranks.now)) }
 {
     let mut rest = total;
-    let mut i: usize = 0;
-    while i < ranks.len() {
+    for (i, &rank) in ranks.iter().enumerate() {
         if rest == 0 {
             return i;
         }
-        let share = share_of(rest, left_at(lefts, ranks[i]));
+        let share = share_of(rest, left_at(lefts, rank));
         list[i] = share;
-        rest -= share as u64;
-        i += 1;
+        rest -= u64::from(share);
     }
-    i
+    ranks.len()
 }
 
-// The open quantities less the shares.
+// The open quantities less the shares, never below nothing.
 pub fn lessen<'a>(lefts: &mut [u32], ranks: &'a [u64], shares: &'a [u32])
     requires { (places ≤ length lefts.old) × (length shares.now ≤ length ranks.now) }
     ensures { lefts.new ≡ lessened ranks.now shares.now lefts.old }
 {
-    let mut i: usize = 0;
-    while i < shares.len() {
-        let place = place_of_rank(ranks[i]);
-        lefts[place] = less(lefts[place], shares[i]);
-        i += 1;
+    for (&rank, &share) in ranks.iter().zip(shares) {
+        let place = place_of_rank(rank);
+        lefts[place] = lefts[place].saturating_sub(share);
     }
 }

@@ -1,5 +1,5 @@
 -- Texts of the first n numbers: only those that say something count, and those of a list's entries are the list's.
-use Rattle.std.specs.Prelude.{ℕ, zero, suc, ◌≤◌, ◌<◌, ◌≡◌, refl, List, [], ◌++◌, leb, length, get_or, take}
+use Rattle.std.specs.Prelude.{ℕ, zero, suc, ◌≤◌, ◌<◌, ◌≡◌, refl, List, [], leb, length, get_or, take}
 use Rattle.std.proofs.Common.{append-nil, ⊎_elim, arith, take-suc}
 use Rattle.lists.specs.Tests.{tests, decided}
 use Rattle.text.specs.Text.{texts}

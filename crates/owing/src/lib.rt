@@ -23,7 +23,7 @@ fn put_cell(out: &mut [u8], at: usize, buyer: u16, seller: u16, quantity: u64) -
     if is_empty {
         return at;
     }
-    let numbers = [buyer as u64, seller as u64, quantity];
+    let numbers = [u64::from(buyer), u64::from(seller), quantity];
     let p = put_bytes(out, at, b"owes");
     put_numbers(out, p, &numbers)
 }
@@ -40,31 +40,25 @@ fn put_row<'a>(
     ensures { WroteWithin (square_members * owes_most) out.old out.new at result (row_lines members.now buyer cells.now) }
 {
     let mut end = at;
-    let mut column: usize = 0;
-    while column < MEMBERS {
-        end = put_cell(out, end, buyer, members[column], cells[column]);
-        column += 1;
+    for (column, &seller) in members.iter().enumerate() {
+        end = put_cell(out, end, buyer, seller, cells[column]);
     }
     end
 }
 
 // The lines of all rows.
-fn put_square(
+fn put_square<'a>(
     out: &mut [u8],
     at: usize,
-    members: [u16; MEMBERS],
-    owed: [[u64; MEMBERS]; MEMBERS],
+    members: &'a [u16; MEMBERS],
+    owed: &'a [[u64; MEMBERS]; MEMBERS],
 ) -> usize
     requires { at + square_room ≤ length out.old }
-    ensures { WroteWithin (square_cells * owes_most) out.old out.new at result (square_lines members owed) }
+    ensures { WroteWithin (square_cells * owes_most) out.old out.new at result (square_lines members.now owed.now) }
 {
     let mut end = at;
-    let mut row: usize = 0;
-    while row < MEMBERS {
-        let cells = owed[row];
-        let buyer = members[row];
-        end = put_row(out, end, &members, buyer, &cells);
-        row += 1;
+    for (row, &buyer) in members.iter().enumerate() {
+        end = put_row(out, end, members, buyer, &owed[row]);
     }
     end
 }
@@ -75,9 +69,8 @@ pub fn owed_lines(out: &mut [u8], at: usize, desk: Desk) -> usize
     ensures { Wrote out.old out.new at result (owed_lines desk) }
 {
     let owed = square(desk);
-    let members = desk.members;
     let numbers = [total_of(&desk.totals)];
-    let end = put_square(out, at, members, owed);
+    let end = put_square(out, at, &desk.members, &owed);
     let p = put_bytes(out, end, b"total");
     put_numbers(out, p, &numbers)
 }

@@ -8,7 +8,7 @@ use Rattle.lists.specs.Sums.{counted}
 use Rattle.lists.specs.Tests.{tests, decided}
 use Rattle.terms.specs.Bounds.{places}
 use Rattle.terms.specs.Kinds.{is_place}
-use Rattle.places.specs.Places.{bit, bit_at, is_taken, lowest_free, total, count_taken, is_full, is_short, marked, marked_at}
+use Rattle.places.specs.Places.{bit, bit_at, is_taken, lowest_free, total, count_taken, is_short, marked, marked_at}
 use Rattle.places.specs.Words.{bit-lt, bit-zero, total-word, total-same, total-most, marked-taken, marked-elsewhere, lowest-free-clear, full-none-free, count-is-taken}
 
 -- a total in which one more is counted at one place

@@ -1,4 +1,4 @@
-// Words: a place is taken where its bit is 1. Trailing zeros pick the lowest free place, ones count the taken ones.
+// Words: a place is taken where its bit is 1. Trailing ones pick the lowest free place, ones count the taken ones.
 ghost use Rattle.std.specs.Prelude.{◌≡◌, ◌<◌, ◌≤◌, set};
 ghost use Rattle.places.specs.Places.{word_places, word_count, bit, total, lowest_free, count_taken, behind_taken, with_bit, without_bit, marked_at, unmarked_at};
 ghost use Rattle.places.specs.Words.{LowClear};
@@ -22,26 +22,23 @@ pub fn bit_of(word: u64, k: usize) -> u64
 fn low_clear(word: u64) -> usize
     ensures { LowClear word result }
 {
-    u64::trailing_zeros(!word) as usize
+    word.trailing_ones() as usize
 }
 
 fn set_bits(word: u64) -> usize
     ensures { (result ≡ total (λ k. bit k word) word_places) × (result ≤ word_places) }
 {
-    u64::count_ones(word) as usize
+    word.count_ones() as usize
 }
 
 // The lowest free place, or 512: in the first word with a place left, its lowest clear bit.
 pub fn lowest_free(taken: &[u64; WORDS]) -> usize
     ensures { result ≡ lowest_free taken.now }
 {
-    let mut j: usize = 0;
-    while j < WORDS {
-        let word = taken[j];
+    for (j, &word) in taken.iter().enumerate() {
         if set_bits(word) < WORD_PLACES {
             return j * WORD_PLACES + low_clear(word);
         }
-        j += 1;
     }
     Place::COUNT
 }
@@ -49,25 +46,17 @@ pub fn lowest_free(taken: &[u64; WORDS]) -> usize
 pub fn count_taken(taken: [u64; WORDS]) -> usize
     ensures { result ≡ count_taken taken }
 {
-    let mut n: usize = 0;
-    let mut j: usize = 0;
-    while j < WORDS {
-        n += set_bits(taken[j]);
-        j += 1;
-    }
-    n
+    taken.iter().map(|word| set_bits(*word)).sum()
 }
 
 // Behind the last word with a taken place: from there on all places are free.
 pub fn behind_taken(taken: &[u64; WORDS]) -> usize
     ensures { result ≡ behind_taken taken.now }
 {
-    let mut j: usize = WORDS;
-    while j > 0 {
-        if taken[j - 1] != 0 {
-            return j * WORD_PLACES;
+    for j in (0..WORDS).rev() {
+        if taken[j] != 0 {
+            return (j + 1) * WORD_PLACES;
         }
-        j -= 1;
     }
     0
 }

@@ -117,7 +117,7 @@ module _ (f : ℕ → ℕ) where
   renamed-next (suc i) (b ∷ s ∷ q ∷ p ∷ list) h = rw (more i 1, four-more i) (ap (λ (l : List ℕ). f b ∷ f s ∷ q ∷ p ∷ l) (renamed-next i list (omega arith)))
 
 -- ---- place by place
-places-length : (n : ℕ) → length (places_to n) ≡ n
+pub places-length : (n : ℕ) → length (places_to n) ≡ n
 unfolding places_to
 places-length zero = refl
 places-length (suc n) = omega (arith, length-append (places_to n) (n ∷ []), places-length n)

@@ -9,6 +9,7 @@ ghost use Rattle.trades.specs.Written.{trades_read};
 ghost use Rattle.squares.specs.Square.{square_members, square_cells, row_of, cell_of, Small, InBook, total, added_at, added_to, row_at, square_of};
 ghost use Rattle.squares.specs.Naming.{renamed, place_column};
 
+use std::array;
 use terms::Place;
 use trades::Trade;
 
@@ -22,14 +23,10 @@ pub fn row_of(members: &[u16; MEMBERS], entered: usize, member: u16) -> usize
     requires { (length members.now ≡ square_members) × (entered ≤ square_members) }
     ensures { result ≡ row_of (take entered members.now) member }
 {
-    let mut row: usize = 0;
-    while row < entered {
-        if members[row] == member {
-            return row;
-        }
-        row += 1;
-    }
-    row
+    members[..entered]
+        .iter()
+        .position(|m| *m == member)
+        .unwrap_or(entered)
 }
 
 // The cell of two rows, the buying member's first.
@@ -37,13 +34,7 @@ fn cell_of(buyer: u8, seller: u8) -> usize
     requires { (buyer < square_members) × (seller < square_members) }
     ensures { (result ≡ cell_of buyer seller) × (result < square_cells) }
 {
-    buyer as usize * MEMBERS + seller as usize
-}
-
-fn wide(n: u32) -> usize
-    ensures { result ≡ n }
-{
-    n as usize
+    usize::from(buyer) * MEMBERS + usize::from(seller)
 }
 
 // A quantity added to a cell.
@@ -51,7 +42,7 @@ fn add_at(totals: &mut [u64; CELLS], cell: usize, quantity: u32)
     requires { (cell < square_cells) × (get_or totals.old cell 0 + quantity < 2 ^ 64) }
     ensures { totals.new ≡ added_at cell quantity totals.old }
 {
-    totals[cell] += quantity as u64;
+    totals[cell] += u64::from(quantity);
 }
 
 // The quantities of the first trades of a list, whose sides are told by places, added to their cells.
@@ -64,14 +55,12 @@ pub fn add_trades<'a>(
     requires { (length totals.old ≡ square_cells) × (4 * count ≤ length list.now) × Small rows.now × InBook (trades_read count list.now) × (total totals.old + volume (trades_read count list.now) < 2 ^ 64) }
     ensures { totals.new ≡ added_to (λ p. get_or rows.now p 0) (trades_read count list.now) totals.old }
 {
-    let mut i: usize = 0;
-    while i < count {
+    for i in 0..count {
         let at = i * Trade::NUMBERS;
-        let buy = wide(list[at]);
-        let sell = wide(list[at + 1]);
+        let buy = list[at] as usize;
+        let sell = list[at + 1] as usize;
         let cell = cell_of(rows[buy], rows[sell]);
         add_at(totals, cell, list[at + 2]);
-        i += 1;
     }
 }
 
@@ -80,14 +69,12 @@ pub fn name_orders(list: &mut [u32], count: usize, numbers: &[u32; Place::COUNT]
     requires { (4 * count ≤ length list.old) × InBook (trades_read count list.old) }
     ensures { list.new ≡ renamed (λ p. get_or numbers.now p 0) count list.old }
 {
-    let mut i: usize = 0;
-    while i < count {
+    for i in 0..count {
         let at = i * Trade::NUMBERS;
-        let buy = wide(list[at]);
-        let sell = wide(list[at + 1]);
+        let buy = list[at] as usize;
+        let sell = list[at + 1] as usize;
         list[at] = numbers[buy];
         list[at + 1] = numbers[sell];
-        i += 1;
     }
 }
 
@@ -110,13 +97,7 @@ pub fn clear_trades<'a>(
 pub fn place_column() -> [u32; Place::COUNT]
     ensures { result ≡ place_column }
 {
-    let mut column = [0u32; Place::COUNT];
-    let mut place: usize = 0;
-    while place < Place::COUNT {
-        column[place] = place as u32;
-        place += 1;
-    }
-    column
+    array::from_fn(|place| place as u32)
 }
 
 // A row of the square.
@@ -125,10 +106,8 @@ fn row_at(totals: &[u64; CELLS], row: usize) -> [u64; MEMBERS]
     ensures { result ≡ row_at totals.now row }
 {
     let mut cells = [0u64; MEMBERS];
-    let mut column: usize = 0;
-    while column < MEMBERS {
-        cells[column] = totals[row * MEMBERS + column];
-        column += 1;
+    for (column, cell) in cells.iter_mut().enumerate() {
+        *cell = totals[row * MEMBERS + column];
     }
     cells
 }
@@ -139,10 +118,8 @@ pub fn square_of(totals: &[u64; CELLS]) -> [[u64; MEMBERS]; MEMBERS]
     ensures { result ≡ square_of totals.now }
 {
     let mut square = [[0u64; MEMBERS]; MEMBERS];
-    let mut row: usize = 0;
-    while row < MEMBERS {
-        square[row] = row_at(totals, row);
-        row += 1;
+    for (row, cells) in square.iter_mut().enumerate() {
+        *cells = row_at(totals, row);
     }
     square
 }
@@ -152,11 +129,5 @@ pub fn total_of(totals: &[u64; CELLS]) -> u64
     requires { (length totals.now ≡ square_cells) × (total totals.now < 2 ^ 64) }
     ensures { result ≡ total totals.now }
 {
-    let mut sum: u64 = 0;
-    let mut cell: usize = 0;
-    while cell < CELLS {
-        sum += totals[cell];
-        cell += 1;
-    }
-    sum
+    totals.iter().sum()
 }

@@ -1,7 +1,5 @@
 -- The rows of the square, then the total.
 use native.Mathlib.Omega.{arith}
-use borrow.Author.Rules.{rules}
-use Rattle.desk.specs.Sound.{far-below}
 use Rattle.owing.specs.OneByOne.{owed-told}
 use Rattle.owing.proofs.owed_lines.Goals as goal
 

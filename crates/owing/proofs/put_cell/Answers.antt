@@ -1,6 +1,5 @@
 -- Nothing for a cell that is 0; else the word, then the numbers.
 use native.Mathlib.Omega.{arith}
-use borrow.Author.Rules.{rules}
 use Rattle.owing.specs.OneByOne.{cell-silent, cell-told}
 use Rattle.owing.proofs.put_cell.Goals as goal
 
@@ -10,4 +9,4 @@ returns-then-is_empty c = let a = c.args in
 
 pub returns : goal.returns
 returns c = let a = c.args in
-    cell-told a.out.now a.at a.buyer a.seller a.quantity (omega (arith, c.requires)) c.if-is_empty.false (omega (arith, c.ranges.buyer)) (omega (arith, c.ranges.seller)) c.put_bytes-p.ensures c.put_numbers.ensures
+    cell-told a.out.now a.at a.buyer a.seller a.quantity (omega (arith, c.requires)) c.if-is_empty.false (omega (arith, c.ranges.buyer)) (omega (arith, c.ranges.seller)) c.put_bytes-p.ensures (rw (c.from.ensures, c.from-2.ensures) at c.put_numbers.ensures)

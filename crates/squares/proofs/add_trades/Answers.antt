@@ -7,7 +7,7 @@ use lib.ListN.{get_or, drop}
 use Rattle.terms.specs.Bounds.{places}
 use Rattle.trades.specs.declared.{Trade.Trade}
 use Rattle.trades.specs.Written.{trades_read}
-use Rattle.squares.specs.Square.{cell_of, added_at, cell-le-total, add-first, add-first-length, add-first-total, added_none}
+use Rattle.squares.specs.Square.{cell-le-total, add-first, add-first-length, add-first-total, added_none}
 use Rattle.squares.specs.Naming.{trade_at, trade-next, trades-done, trade-listed}
 use Rattle.squares.proofs.add_trades.Goals as goal
 use Rattle.squares.proofs.add_trades.Goals.{In-loop-i}
@@ -24,10 +24,10 @@ in-book : (c : In-loop-i) → ((next c).buy < places) × ((next c).sell < places
 in-book c = c.requires.3 (next c) (trade-listed c.args.count c.args.list.now c.requires.1 c.loop-i.i c.loop-i-test.true)
 
 pub bounds-rows-buy : goal.bounds-rows-buy
-bounds-rows-buy c = rw c.wide-buy.ensures (in-book (goal.at.bounds-rows-buy c).In-loop-i).0
+bounds-rows-buy c = (in-book (goal.at.bounds-rows-buy c).In-loop-i).0
 
 pub bounds-rows-sell : goal.bounds-rows-sell
-bounds-rows-sell c = rw c.wide-sell.ensures (in-book (goal.at.bounds-rows-sell c).In-loop-i).1
+bounds-rows-sell c = (in-book (goal.at.bounds-rows-sell c).In-loop-i).1
 
 pub add_at-requires : goal.add_at-requires
 add_at-requires c = let all = rw (at-hand (goal.at.add_at-requires c).In-loop-i) at c.loop-i.invariant.1 in
@@ -37,21 +37,17 @@ pub loop-i-preserved : goal.loop-i-preserved
 loop-i-preserved c =
     let i = (goal.at.loop-i-preserved c).In-loop-i in
     let l = c.loop-i in
-    let rows = c.args.rows.now in
     let cell = c.cell_of-cell in
-    let buy : c.wide-buy.result ≡ (next i).buy = c.wide-buy.ensures in
-    let sell : c.wide-sell.result ≡ (next i).sell = c.wide-sell.ensures in
-    let at : cell.result ≡ cell_of (get_or rows (next i).buy 0) (get_or rows (next i).sell 0) = rw (buy, sell) at cell.ensures.0 in
-    let is : c.add_at.new.totals ≡ added_at (cell_of (get_or rows (next i).buy 0) (get_or rows (next i).sell 0)) (next i).quantity l.totals = rw at at c.add_at.ensures in
+    let is = rw cell.ensures.0 at c.add_at.ensures in
     let ts = trades_read c.args.count c.args.list.now in
     let rest = drop (l.i + 1) ts in
-    let row : ℕ → ℕ = λ p. get_or rows p 0 in (
+    let row : ℕ → ℕ = λ p. get_or c.args.rows.now p 0 in (
       add-first-length row (next i) (drop l.i ts) rest (at-hand i) l.totals c.add_at.new.totals is ∙ l.invariant.0,
-      add-first-total row (next i) (drop l.i ts) rest (at-hand i) l.totals c.add_at.new.totals is (omega (arith, at, cell.ensures.1, l.invariant.0)) ∙ l.invariant.1,
+      add-first-total row (next i) (drop l.i ts) rest (at-hand i) l.totals c.add_at.new.totals is (omega (arith, cell.ensures)) ∙ l.invariant.1,
       add-first row (next i) (drop l.i ts) rest (at-hand i) l.totals c.add_at.new.totals is ∙ l.invariant.2,
     )
 
 pub returns : goal.returns
 returns c = let a = c.args in
     let row : ℕ → ℕ = λ p. get_or a.rows.now p 0 in
-    sym (added_none row (trades-done a.count a.list.now c.loop-i.i c.loop-i-test.false) c.loop-i.totals) ∙ c.loop-i.invariant.2
+    sym (added_none row (trades-done a.count a.list.now c.loop-i.i (omega arith)) c.loop-i.totals) ∙ c.loop-i.invariant.2

@@ -1,5 +1,5 @@
 -- Invariant: the cells with the trades that are left added are the cells asked for, and nothing is lost on the way.
-use Prim.Native.Nat.{◌+◌, ◌-◌}
+use Prim.Native.Nat.{◌+◌}
 use mathlib.Core.Path.{◌≡◌}
 use lib.ListN.{length, get_or, drop}
 use Rattle.trades.specs.Trades.{volume}
@@ -9,6 +9,3 @@ use Rattle.squares.proofs.add_trades.Given as goal
 
 abbrev pub invariant-loop-i : goal.invariant-loop-i
 invariant-loop-i l = (length l.totals ≡ square_cells) × (total l.totals + volume (drop l.i (trades_read l.count l.list)) ≡ total l.initial.totals + volume (trades_read l.count l.list)) × (added_to (λ p. get_or l.rows p 0) (drop l.i (trades_read l.count l.list)) l.totals ≡ added_to (λ p. get_or l.rows p 0) (trades_read l.count l.list) l.initial.totals)
-
-abbrev pub decreases-loop-i : goal.decreases-loop-i
-decreases-loop-i l = l.count - l.i

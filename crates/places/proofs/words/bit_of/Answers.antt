@@ -1,4 +1,3 @@
-use borrow.Author.Rules.{rules}
 use Rattle.places.specs.Words.{bit-shift}
 use Rattle.places.proofs.words.bit_of.Goals as goal
 

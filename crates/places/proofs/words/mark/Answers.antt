@@ -1,5 +1,5 @@
 use borrow.Author.Rules.{rules}
-use Rattle.places.specs.Words.{mark-here, mark-nowhere}
+use Rattle.places.specs.Words.{mark-here}
 use Rattle.places.proofs.words.mark.Goals as goal
 
 pub returns-then-place-lt-COUNT : goal.returns-then-place-lt-COUNT

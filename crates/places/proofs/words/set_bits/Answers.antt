@@ -1,5 +1,4 @@
 use borrow.Author.Rules.{rules}
-use native.Mathlib.Omega.{arith}
 use lib.Count.{ones-le}
 use Rattle.places.specs.Words.{ones-total}
 use Rattle.places.proofs.words.set_bits.Goals as goal

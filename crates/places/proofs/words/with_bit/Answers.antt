@@ -1,5 +1,4 @@
 use Rattle.places.specs.Words.{shl_one, or-with}
-use borrow.Author.Rules.{rules}
 use Rattle.places.proofs.words.with_bit.Goals as goal
 
 pub returns : goal.returns

@@ -1,7 +1,5 @@
 use mathlib.Core.Path.{◌∙◌, sym}
 use Rattle.places.specs.Words.{shl_one, clear-le}
-use borrow.Author.Rules.{rules}
-use borrow.Author.Tests.{ne_eqb}
 use Rattle.places.proofs.words.without_bit.Goals as goal
 
 -- the bit is set
