@@ -1,5 +1,5 @@
 -- A quote as the code computes it: from where the old sides stand, the new ones put in their stead, column by column.
-use Rattle.std.specs.Prelude.{ℕ, ◌+◌, ◌<◌, Bool, true, refl}
+use Rattle.std.specs.Prelude.{ℕ, ◌+◌, ◌<◌, Bool, refl}
 use Rattle.std.proofs.Math.Bool.{false}
 use Rattle.std.proofs.Math.Path.{◌≡◌, subst}
 use Rattle.std.proofs.Common.{sym, ap, ◌∙◌, arith, lt-ltb}
@@ -13,7 +13,7 @@ use Rattle.places.specs.Places.{lowest_free, is_short, marked_at}
 use Rattle.book.specs.declared.{Book.Book}
 use Rattle.quotes.specs.declared.{Pair.Pair}
 use Rattle.book.specs.Columns.{stored}
-use Rattle.quotes.specs.Quotes.{quote_places, without_pair, quote_place_in, requoted, requoted_words, requoted_book}
+use Rattle.quotes.specs.Quotes.{quote_places, quote_place_in, requoted, requoted_words, requoted_book}
 use Rattle.quotes.specs.Without.{quote-place-in, without-taken, requoted-stored}
 use Rattle.refusals.specs.Checks.{Check, first_hit, answered, answered-refused, answered-done, answered-cases}
 use Rattle.refusals.specs.Rows.{quote_rows}
@@ -25,7 +25,7 @@ use Rattle.session.specs.State.{with_book}
 use Rattle.session.specs.Sound.{legal_price, Sound}
 use Rattle.quotation.specs.declared.{Quoted.Quoted}
 use Rattle.entries.specs.Entry.{control_reference}
-use Rattle.quotation.specs.Quote.{book_without, quote_checks, bid_entered, ask_entered, bid_place, book_with_bid, ask_place, quote_refused, quote_done, quoted}
+use Rattle.quotation.specs.Quote.{book_without, bid_entered, ask_entered, bid_place, ask_place, quote_refused, quote_done, quoted}
 
 -- a session with a quote's change
 abbrev pub requoted_in : Session → QuoteChange → Session
@@ -33,10 +33,10 @@ requoted_in s c = with_book s c.given (requoted_book s.book c.old c.fresh c.bid 
 
 -- .. and a session whose columns are requoted one by one is this session
 pub requoted-as : (s : Session) (c : QuoteChange) {taken number member side validity left limit quoted : List ℕ} → taken ≡ requoted_words s.book.taken c.old c.fresh
-    → number ≡ requoted s.book.number c.old c.fresh c.bid.number c.ask.number → member ≡ requoted s.book.member c.old c.fresh c.bid.member c.ask.member
-    → side ≡ requoted s.book.side c.old c.fresh c.bid.side c.ask.side → validity ≡ requoted s.book.validity c.old c.fresh c.bid.validity c.ask.validity
-    → left ≡ requoted s.book.left c.old c.fresh c.bid.left c.ask.left → limit ≡ requoted s.book.limit c.old c.fresh c.bid.limit c.ask.limit
-    → quoted ≡ requoted s.book.quoted c.old c.fresh c.bid.quoted c.ask.quoted
+    → number ≡ requoted 0 s.book.number c.old c.fresh c.bid.number c.ask.number → member ≡ requoted 0 s.book.member c.old c.fresh c.bid.member c.ask.member
+    → side ≡ requoted 0 s.book.side c.old c.fresh c.bid.side c.ask.side → validity ≡ requoted 0 s.book.validity c.old c.fresh c.bid.validity c.ask.validity
+    → left ≡ requoted 0 s.book.left c.old c.fresh c.bid.left c.ask.left → limit ≡ requoted 0 s.book.limit c.old c.fresh c.bid.limit c.ask.limit
+    → quoted ≡ requoted 0 s.book.quoted c.old c.fresh c.bid.quoted c.ask.quoted
     → with_book s c.given (record { taken = taken; number = number; member = member; side = side; validity = validity; left = left; limit = limit; quoted = quoted }) ≡ requoted_in s c
 requoted-as s c a b d e f g h i = rw (a, b, d, e, f, g, h, i)
 
