@@ -8,7 +8,7 @@ use Rattle.price.specs.declared.search.{Found.Found}
 use Rattle.price.specs.Candidates.{most_executable}
 use Rattle.price.specs.Chain.{auction_price}
 use Rattle.price.proofs.Chain.{price-some, price-most, no-price-most}
-use Rattle.auction.specs.declared.{Outcome.Outcome, Outcome.TheVariants.Traded, Outcome.TheVariants.NoTrade, Outcome.TheVariants.NonOpening, Outcome.TheVariants.Delayed}
+use Rattle.auction.specs.declared.{Outcome.TheVariants.Traded, Outcome.TheVariants.NoTrade, Outcome.TheVariants.Delayed}
 use Rattle.auction.specs.Outcome.{Held, unlimited, exceeds, non_opening, prevented, delays, priced, outcome}
 use Rattle.auction.specs.Decided.{outcome_from}
 
