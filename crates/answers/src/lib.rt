@@ -5,11 +5,9 @@ ghost use Rattle.std.specs.Prelude.{◌≡◌};
 ghost use Rattle.session.specs.Sound.{Sound};
 ghost use Rattle.answers.specs.Auctions.{auction_leaves, auctioned};
 
-use book::{settle_left, settle_words, settle8, settle16, settle32};
 use courses::{
     AuctionAnswer, Course, answer_of, planned, price_of, quantity_of, result_of, standing_after,
 };
-use places::behind_taken;
 use session::Session;
 use terms::Place;
 
@@ -20,7 +18,7 @@ pub struct Auctioned {
     pub session: Session,
 }
 
-// Auction: refusals 1, 2, 4, 12. The trades go to the list, four numbers each, from its front. The session is changed in place, column by column,
+// Auction: refusals 1, 2, 4, 12. The trades go to the list, four numbers each, from its front. The session is changed in place
 // and leaves by one way out: with two, or by value to another function, the stack would hold it twice.
 pub fn auction(mut session: Session, which: u8, list: &mut [u32]) -> Auctioned
     requires { Sound session }
@@ -61,15 +59,7 @@ pub fn auction(mut session: Session, which: u8, list: &mut [u32]) -> Auctioned
             list,
         );
         let rests = closed.rests;
-        let end = behind_taken(&session.book.taken);
-        settle_words(&mut session.book.taken, &rests, end);
-        settle32(&mut session.book.number, &rests, end);
-        settle16(&mut session.book.member, &rests, end);
-        settle8(&mut session.book.side, &rests, end);
-        settle8(&mut session.book.validity, &rests, end);
-        settle_left(&mut session.book.left, &rests, end);
-        settle32(&mut session.book.limit, &rests, end);
-        settle8(&mut session.book.quoted, &rests, end);
+        session.book.settle(&rests);
         count = closed.count;
     }
     let answer = answer_of(course);

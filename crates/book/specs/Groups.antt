@@ -1,8 +1,10 @@
 -- Groups: places that are looked at together, and where the place sought is then.
 use Prim.Native.Nat.{ℕ, zero, suc, ◌+◌, ◌-◌, ◌≤◌, ◌<◌}
-use Rattle.std.specs.Prelude.{Bool, ◌||◌, ◌≡◌, List, eqb, get_or}
+use Rattle.std.specs.Prelude.{Bool, ◌||◌, ◌≡◌, List, eqb, length, get_or, take, drop}
+use Rattle.std.specs.List.{fold, slice_range}
+use Rattle.std.proofs.Math.Seq.{drop-cons}
 use Rattle.std.proofs.Math.Bool.{true, false, or_assoc, or-false, and-false}
-use Rattle.std.proofs.Math.Path.{refl}
+use Rattle.std.proofs.Math.Path.{refl, sym}
 use Rattle.std.proofs.Common.{◌∙◌, add-zero, add-suc, zero-add}
 use Rattle.std.proofs.Math.Nat.{suc-add}
 use Rattle.std.proofs.Math.Numerals.{towards_numerals}
@@ -17,6 +19,21 @@ has_at numbers number place = eqb (get_or numbers place 0) number
 unfoldable pub has_number : List ℕ → ℕ → ℕ → ℕ → Bool
 has_number numbers number place zero = false
 has_number numbers number place (suc n) = has_at numbers number place || has_number numbers number (suc place) n
+
+-- .. told together, after some that are told
+told-from : (numbers : List ℕ) (number : ℕ) (b : Bool) (n place : ℕ) → place + n ≤ length numbers
+    → fold (λ found y. found || eqb y number) b (take n (drop place numbers)) ≡ (b || has_number numbers number place n)
+unfolding has_number
+told-from numbers number b zero place h = sym (or-false b)
+told-from numbers number b (suc n) place h =
+    let within : place < length numbers = omega arith in
+    rw (drop-cons numbers place 0 within) (told-from numbers number (b || has_at numbers number place) n (suc place) (omega arith) ∙ or_assoc b _ _)
+
+pub has-number-told : (numbers : List ℕ) (number n place : ℕ) → place + n ≤ length numbers
+    → fold (λ found y. found || eqb y number) false (slice_range numbers place (place + n)) ≡ has_number numbers number place n
+has-number-told numbers number n place h =
+    let many : place + n - place ≡ n = omega arith in
+    rw many (told-from numbers number false n place h)
 
 -- .. of eight, one after the other
 pub has-number-eight : (numbers : List ℕ) (number place : ℕ)

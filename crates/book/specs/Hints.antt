@@ -1,5 +1,5 @@
 -- Hints: what a place with the number sought says of all others.
-use Rattle.std.specs.Prelude.{ℕ, zero, suc, ◌+◌, ◌-◌, ◌≤◌, ◌<◌, Bool, true, false, ◌&&◌, ◌≡◌, refl, List, eqb, get_or}
+use Rattle.std.specs.Prelude.{ℕ, ◌≤◌, ◌<◌, Bool, true, false, ◌&&◌, ◌≡◌, refl, List, eqb, get_or}
 use Rattle.std.proofs.Common.{true≢false, sym, ap, ◌∙◌, arith, eqb-true, eq-eqb}
 use Rattle.terms.specs.Bounds.{places}
 use Rattle.places.specs.Places.{is_taken}

@@ -20,14 +20,14 @@ use Rattle.book.specs.Resting.{put_back, changed_at, changed_to, changed}
 use Rattle.book.specs.Sound.{SoundBook}
 use Rattle.book.specs.Changed.{changed-to-later}
 
--- what a place holds in a column: nothing where nothing rests
-abbrev pub kept_by : ℕ → ℕ → ℕ
-kept_by rest x = cond (eqb rest 0) 0 x
+-- what a place holds in a column: its empty value where nothing rests
+abbrev pub kept_by : {A : Type 0} → A → ℕ → A → A
+kept_by empty rest x = cond (eqb rest 0) empty x
 
 -- a column settled at the first n places, and what is open there
-unfoldable pub column_to : List ℕ → List ℕ → ℕ → List ℕ
-column_to rests column zero = column
-column_to rests column (suc n) = set (column_to rests column n) n (kept_by (get_or rests n 0) (get_or (column_to rests column n) n 0))
+unfoldable pub column_to : {A : Type 0} → A → List ℕ → List A → ℕ → List A
+column_to empty rests column zero = column
+column_to empty rests column (suc n) = set (column_to empty rests column n) n (kept_by empty (get_or rests n 0) (get_or (column_to empty rests column n) n empty))
 
 unfoldable pub left_to : List ℕ → List ℕ → ℕ → List ℕ
 left_to rests lefts zero = lefts
@@ -42,26 +42,27 @@ words_to rests words (suc n) = cond (eqb (get_or rests n 0) 0) (unmarked_at (wor
 abbrev pub settled_to : List ℕ → Book → ℕ → Book
 settled_to rests b n = record {
   taken = words_to rests b.taken n;
-  number = column_to rests b.number n;
-  member = column_to rests b.member n;
-  side = column_to rests b.side n;
-  validity = column_to rests b.validity n;
+  number = column_to 0 rests b.number n;
+  member = column_to 0 rests b.member n;
+  side = column_to 0 rests b.side n;
+  validity = column_to 0 rests b.validity n;
   left = left_to rests b.left n;
-  limit = column_to rests b.limit n;
-  quoted = column_to rests b.quoted n;
+  limit = column_to 0 rests b.limit n;
+  quoted = column_to 0 rests b.quoted n;
 }
 
 -- .. from its columns, settled one by one
 pub settled-as : (rests : List ℕ) (b : Book) (n : ℕ) {taken number member side validity left limit quoted : List ℕ}
-    → taken ≡ words_to rests b.taken n → number ≡ column_to rests b.number n → member ≡ column_to rests b.member n → side ≡ column_to rests b.side n
-    → validity ≡ column_to rests b.validity n → left ≡ left_to rests b.left n → limit ≡ column_to rests b.limit n → quoted ≡ column_to rests b.quoted n
+    → taken ≡ words_to rests b.taken n → number ≡ column_to 0 rests b.number n → member ≡ column_to 0 rests b.member n → side ≡ column_to 0 rests b.side n
+    → validity ≡ column_to 0 rests b.validity n → left ≡ left_to rests b.left n → limit ≡ column_to 0 rests b.limit n → quoted ≡ column_to 0 rests b.quoted n
     → record { taken = taken; number = number; member = member; side = side; validity = validity; left = left; limit = limit; quoted = quoted } ≡ settled_to rests b n
 settled-as rests b n t u m s v l i q = rw (t, u, m, s, v, l, i, q)
 
 -- one place on
-pub column-next : (rests column now : List ℕ) (n : ℕ) → now ≡ column_to rests column n → (x : ℕ) → x ≡ kept_by (get_or rests n 0) (get_or now n 0) → set now n x ≡ column_to rests column (n + 1)
+pub column-next : {A : Type 0} (empty : A) (rests : List ℕ) (column now : List A) (n : ℕ) → now ≡ column_to empty rests column n → (x : A) → x ≡ kept_by empty (get_or rests n 0) (get_or now n empty)
+    → set now n x ≡ column_to empty rests column (n + 1)
 unfolding column_to
-column-next rests column now n so_far x is = rw (add-one, ← so_far, is)
+column-next empty rests column now n so_far x is = rw (add-one, ← so_far, is)
 
 pub left-next : (rests lefts now : List ℕ) (n : ℕ) → now ≡ left_to rests lefts n → set now n (get_or rests n 0) ≡ left_to rests lefts (n + 1)
 unfolding left_to
@@ -112,13 +113,13 @@ written-again c place = rw (
 -- the values at a place with that resting there
 abbrev rest_values : ℕ → Values → Values
 rest_values rest r = record {
-  number = kept_by rest r.number;
-  member = kept_by rest r.member;
-  side = kept_by rest r.side;
-  validity = kept_by rest r.validity;
+  number = kept_by 0 rest r.number;
+  member = kept_by 0 rest r.member;
+  side = kept_by 0 rest r.side;
+  validity = kept_by 0 rest r.validity;
   left = rest;
-  limit = kept_by rest r.limit;
-  quoted = kept_by rest r.quoted;
+  limit = kept_by 0 rest r.limit;
+  quoted = kept_by 0 rest r.quoted;
 }
 
 abbrev settled_at : List ℕ → Book → ℕ → Book

@@ -1,13 +1,14 @@
 // Columns: how an order stands at a place, and storing, clearing and finding one.
-ghost use Rattle.std.specs.Prelude.{◌≡◌, ◌<◌, ◌≤◌, ◌+◌, set};
-ghost use Rattle.book.specs.Columns.{mark_of, values_of, empty_values, empty_book};
-ghost use Rattle.book.specs.Groups.{has_number};
+ghost use Rattle.std.specs.Prelude.{◌≡◌, ◌<◌, ◌≤◌, ◌+◌, ◌/◌, false, ◌||◌, set};
+ghost use Rattle.std.specs.List.{fold, slice_range};
+ghost use Rattle.book.specs.Columns.{values_of, empty_values, empty_book, written};
 ghost use Rattle.book.specs.Resting.{place_in};
+ghost use Rattle.places.specs.Places.{word_places};
 ghost use Rattle.terms.specs.Bounds.{places};
 ghost use Rattle.terms.specs.Orders.{validity_from, resting_as};
 
 use crate::{Book, Values};
-use places::{WORD_PLACES, WORDS, bit_of};
+use places::{WORD_PLACES, WORDS, bit_of, put_word};
 use terms::{Order, Place, Validity};
 
 // A validity stands under its number of 01.
@@ -20,12 +21,6 @@ pub fn validity_from(x: u8) -> Validity
         Validity::DAY => Validity::Day,
         _ => Validity::LaterDay,
     }
-}
-
-fn mark_of(quoted: bool) -> u8
-    ensures { result ≡ mark_of quoted }
-{
-    if quoted { 1 } else { 0 }
 }
 
 // An order under its number, a side of a quote or not, as the columns hold it.
@@ -42,7 +37,7 @@ pub fn values_of(number: u32, quoted: bool, o: Order) -> Values
         validity: validity.number(),
         left: o.quantity.number(),
         limit: limit.number(),
-        quoted: mark_of(quoted),
+        quoted: u8::from(quoted),
     }
 }
 
@@ -63,22 +58,40 @@ impl Values {
     }
 }
 
-// A store in a column that is lent, for each width.
-pub fn put32(column: &mut [u32; Place::COUNT], place: usize, x: u32)
-    requires { place < places }
-    ensures { column.new ≡ set column.old place x }
-{
-    column[place] = x;
+// What a column holds: a number, and the empty value 0 where a place is free.
+pub trait Held: Copy {
+    ghost empty: { Self };
+
+    fn empty() -> Self
+        ensures { result ≡ empty };
 }
 
-pub fn put16(column: &mut [u16; Place::COUNT], place: usize, x: u16)
-    requires { place < places }
-    ensures { column.new ≡ set column.old place x }
-{
-    column[place] = x;
+impl Held for u8 {
+    ghost empty = { 0 };
+
+    fn empty() -> u8 {
+        0
+    }
 }
 
-pub fn put8(column: &mut [u8; Place::COUNT], place: usize, x: u8)
+impl Held for u16 {
+    ghost empty = { 0 };
+
+    fn empty() -> u16 {
+        0
+    }
+}
+
+impl Held for u32 {
+    ghost empty = { 0 };
+
+    fn empty() -> u32 {
+        0
+    }
+}
+
+// A store in a column that is lent.
+pub fn put<T: Copy>(column: &mut [T; Place::COUNT], place: usize, x: T)
     requires { place < places }
     ensures { column.new ≡ set column.old place x }
 {
@@ -100,70 +113,69 @@ impl Book {
             quoted: [0u8; Place::COUNT],
         }
     }
+
+    // A change at a place: the word with its bit, and what each column holds there.
+    pub fn write(&mut self, place: usize, word: u64, values: Values)
+        requires { place < places }
+        ensures { self.new ≡ written self.old (set self.old.taken (place / word_places) word) place values }
+    {
+        put_word(&mut self.taken, place / WORD_PLACES, word);
+        put(&mut self.number, place, values.number);
+        put(&mut self.member, place, values.member);
+        put(&mut self.side, place, values.side);
+        put(&mut self.validity, place, values.validity);
+        put(&mut self.left, place, values.left);
+        put(&mut self.limit, place, values.limit);
+        put(&mut self.quoted, place, values.quoted);
+    }
+
+    // The least place whose resting order has this number and this member, or 512.
+    pub fn place_of(&self, number: u32, member: u16) -> usize
+        ensures { result ≡ place_in self.now.taken self.now.number self.now.member number member 0 places }
+    {
+        for group in 0..Place::COUNT / GROUP {
+            let from = group * GROUP;
+            if holds::<u32, GROUP>(&self.number, from, number) {
+                let found = self.place_in_group(number, member, from);
+                if found < from + GROUP {
+                    return found;
+                }
+            }
+        }
+        Place::COUNT
+    }
+
+    // The least of eight places from one on whose resting order has this number and this member, or the place behind them.
+    fn place_in_group(&self, number: u32, member: u16, from: usize) -> usize
+        requires { from + 8 ≤ places }
+        ensures { result ≡ place_in self.now.taken self.now.number self.now.member number member from 8 }
+    {
+        let behind = from + GROUP;
+        for place in from..behind {
+            if (self.number[place] == number) & (self.member[place] == member) {
+                if bit_of(self.taken[place / WORD_PLACES], place % WORD_PLACES) == 1 {
+                    return place;
+                }
+            }
+        }
+        behind
+    }
 }
 
 // Places that are looked at together.
 const GROUP: usize = 8;
 
-// Whether one of eight places from one on has this number: told together, so that the machine compares them at once.
-fn has_number(numbers: &[u32; Place::COUNT], from: usize, number: u32) -> bool
-    requires { from + 8 ≤ places }
-    ensures { result ≡ has_number numbers.now number from 8 }
-{
-    (numbers[from] == number)
-        | (numbers[from + 1] == number)
-        | (numbers[from + 2] == number)
-        | (numbers[from + 3] == number)
-        | (numbers[from + 4] == number)
-        | (numbers[from + 5] == number)
-        | (numbers[from + 6] == number)
-        | (numbers[from + 7] == number)
-}
-
-// The least of eight places from one on whose resting order has this number and this member, or the place behind them.
-fn place_in_group<'a>(
-    taken: &'a [u64; WORDS],
-    numbers: &'a [u32; Place::COUNT],
-    members: &'a [u16; Place::COUNT],
-    number: u32,
-    member: u16,
+// Whether one of so many places from one on holds this: told together, so that the machine compares them at once.
+pub fn holds<T: Copy + PartialEq, const COUNT: usize>(
+    column: &[T; Place::COUNT],
     from: usize,
-) -> usize
-    requires { from + 8 ≤ places }
-    ensures { result ≡ place_in taken.now numbers.now members.now number member from 8 }
+    x: T,
+) -> bool
+    requires { from + COUNT ≤ places }
+    ensures { result ≡ fold (λ found y. found || T.eq y x) false (slice_range column.now from (from + COUNT)) }
 {
-    let behind = from + GROUP;
-    let mut place: usize = from;
-    while place < behind {
-        if (numbers[place] == number) & (members[place] == member) {
-            if bit_of(taken[place / WORD_PLACES], place % WORD_PLACES) == 1 {
-                return place;
-            }
-        }
-        place += 1;
-    }
-    behind
-}
-
-// The least place whose resting order has this number and this member, or 512.
-pub fn place_of<'a>(
-    taken: &'a [u64; WORDS],
-    numbers: &'a [u32; Place::COUNT],
-    members: &'a [u16; Place::COUNT],
-    number: u32,
-    member: u16,
-) -> usize
-    ensures { result ≡ place_in taken.now numbers.now members.now number member 0 places }
-{
-    let mut place: usize = 0;
-    while place < Place::COUNT {
-        if has_number(numbers, place, number) {
-            let found = place_in_group(taken, numbers, members, number, member, place);
-            if found < place + GROUP {
-                return found;
-            }
-        }
-        place += GROUP;
-    }
-    Place::COUNT
+    let all = &column[..];
+    all[from..from + COUNT]
+        .iter()
+        .fold(false, |found, y| found | (*y == x))
 }

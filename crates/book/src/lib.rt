@@ -6,10 +6,9 @@ mod columns;
 mod hints;
 mod settling;
 
-pub use columns::{place_of, put8, put16, put32, validity_from, values_of};
-pub use hints::{HINTS, hint, hint_all, place_by_hint, wide};
+pub use columns::{Held, holds, put, validity_from, values_of};
+pub use hints::{HINTS, hint, hint_all};
 use places::WORDS;
-pub use settling::{settle_left, settle_words, settle8, settle16, settle32};
 use terms::Place;
 
 #[derive(Clone, Copy)]

@@ -6,10 +6,10 @@ ghost use Rattle.desk.specs.Calls.{entered as calls_entered, quoted as calls_quo
 ghost use Rattle.desk.specs.Sound.{SoundDesk};
 
 use crate::{Desk, Entered, Quoted};
-use book::{put8, put16, put32};
+use book::put;
 use effects::{Effect, QuoteEffect, order_effect, quote_effect};
-use places::{WORD_PLACES, put_word};
-use quotation::{old_pair, requoted};
+use quotation::old_pair;
+use quotes::requote;
 use squares::{MEMBERS, row_of};
 use terms::{Entry, QuoteEntry};
 
@@ -31,16 +31,15 @@ fn count_with(count: usize, row: usize) -> usize
     count
 }
 
-// Order: refusals 1, 2, 4, 5, 6, 7, 8, 16, 9, 10. The change is stored as in `entries`, in the desk itself: a session stored by itself would be one
+// Order: refusals 1, 2, 4, 5, 6, 7, 8, 16, 9, 10. The change is written as in `entries`, in the desk itself: a session by value would be one
 // copy more.
 pub fn order(mut desk: Desk, e: Entry) -> Entered
     requires { SoundDesk desk }
     ensures { result ≡ calls_entered desk e }
 {
     let row = row_of(&desk.members, desk.count, e.member);
-    let session = desk.session;
-    let phase = session.phase;
-    let parameters = session.parameters;
+    let phase = desk.session.phase;
+    let parameters = desk.session.parameters;
     let effect = order_effect(
         phase,
         parameters,
@@ -58,17 +57,9 @@ pub fn order(mut desk: Desk, e: Entry) -> Entered
         },
         Effect::Done(c) => {
             let place = c.place;
-            let values = c.values;
             desk.session.given = c.given;
-            put_word(&mut desk.session.book.taken, place / WORD_PLACES, c.word);
-            put32(&mut desk.session.book.number, place, values.number);
-            put16(&mut desk.session.book.member, place, values.member);
-            put8(&mut desk.session.book.side, place, values.side);
-            put8(&mut desk.session.book.validity, place, values.validity);
-            put32(&mut desk.session.book.left, place, values.left);
-            put32(&mut desk.session.book.limit, place, values.limit);
-            put8(&mut desk.session.book.quoted, place, values.quoted);
-            put8(&mut desk.rows, place, narrow(row));
+            desk.session.book.write(place, c.word, c.values);
+            put(&mut desk.rows, place, narrow(row));
             desk.members[row] = e.member;
             desk.count = count_with(desk.count, row);
             Entered {
@@ -86,22 +77,16 @@ pub fn quote(mut desk: Desk, e: QuoteEntry) -> Quoted
     ensures { result ≡ calls_quoted desk e }
 {
     let row = row_of(&desk.members, desk.count, e.member);
-    let session = desk.session;
-    let phase = session.phase;
-    let parameters = session.parameters;
-    let old = old_pair(
-        &session.book.quoted,
-        &session.book.member,
-        &session.book.side,
-        e.member,
-    );
+    let phase = desk.session.phase;
+    let parameters = desk.session.parameters;
+    let old = old_pair(&desk.session.book, e.member);
     let effect = quote_effect(
         phase,
         parameters,
         parameters.reference,
         MEMBERS <= row,
-        session.given,
-        &session.book.taken,
+        desk.session.given,
+        &desk.session.book.taken,
         old,
         e,
     );
@@ -116,10 +101,10 @@ pub fn quote(mut desk: Desk, e: QuoteEntry) -> Quoted
             let fresh = c.fresh;
             let bid = c.bid;
             let ask = c.ask;
-            let later = requoted(session, c);
-            desk.session = later;
-            put8(&mut desk.rows, fresh.bid, narrow(row));
-            put8(&mut desk.rows, fresh.ask, narrow(row));
+            desk.session.given = c.given;
+            requote(&mut desk.session.book, c.old, fresh, bid, ask);
+            put(&mut desk.rows, fresh.bid, narrow(row));
+            put(&mut desk.rows, fresh.ask, narrow(row));
             desk.members[row] = e.member;
             desk.count = count_with(desk.count, row);
             Quoted {

@@ -6,12 +6,10 @@ ghost use Rattle.std.specs.Prelude.{◌≡◌};
 ghost use Rattle.desk.specs.Sound.{SoundDesk};
 ghost use Rattle.desk_auction.specs.Auctions.{auction_leaves, auctioned};
 
-use book::{settle_left, settle_words, settle8, settle16, settle32};
 use courses::{
     AuctionAnswer, Course, answer_of, planned, price_of, quantity_of, result_of, standing_after,
 };
 use desk::Desk;
-use places::behind_taken;
 use session::Session;
 use squares::{clear_trades, place_column};
 use terms::Place;
@@ -76,15 +74,7 @@ pub fn auction(desk: Desk, which: u8, list: &mut [u32]) -> Auctioned
             &session.book.number,
         );
         let rests = closed.rests;
-        let end = behind_taken(&session.book.taken);
-        settle_words(&mut session.book.taken, &rests, end);
-        settle32(&mut session.book.number, &rests, end);
-        settle16(&mut session.book.member, &rests, end);
-        settle8(&mut session.book.side, &rests, end);
-        settle8(&mut session.book.validity, &rests, end);
-        settle_left(&mut session.book.left, &rests, end);
-        settle32(&mut session.book.limit, &rests, end);
-        settle8(&mut session.book.quoted, &rests, end);
+        session.book.settle(&rests);
     }
     let answer = answer_of(course);
     let result = result_of(course, count);

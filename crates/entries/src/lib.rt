@@ -97,13 +97,7 @@ pub fn delete(session: Session, number: u32, member: u16) -> Deleted
     ensures { result ≡ entry_deleted session number member }
 {
     let phase = session.phase;
-    let place = book::place_of(
-        &session.book.taken,
-        &session.book.number,
-        &session.book.member,
-        number,
-        member,
-    );
+    let place = session.book.place_of(number, member);
     let effect = delete_effect(
         phase,
         session.given,

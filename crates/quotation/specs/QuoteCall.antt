@@ -33,10 +33,10 @@ requoted_in s c = with_book s c.given (requoted_book s.book c.old c.fresh c.bid 
 
 -- .. and a session whose columns are requoted one by one is this session
 pub requoted-as : (s : Session) (c : QuoteChange) {taken number member side validity left limit quoted : List ℕ} → taken ≡ requoted_words s.book.taken c.old c.fresh
-    → number ≡ requoted s.book.number c.old c.fresh c.bid.number c.ask.number → member ≡ requoted s.book.member c.old c.fresh c.bid.member c.ask.member
-    → side ≡ requoted s.book.side c.old c.fresh c.bid.side c.ask.side → validity ≡ requoted s.book.validity c.old c.fresh c.bid.validity c.ask.validity
-    → left ≡ requoted s.book.left c.old c.fresh c.bid.left c.ask.left → limit ≡ requoted s.book.limit c.old c.fresh c.bid.limit c.ask.limit
-    → quoted ≡ requoted s.book.quoted c.old c.fresh c.bid.quoted c.ask.quoted
+    → number ≡ requoted 0 s.book.number c.old c.fresh c.bid.number c.ask.number → member ≡ requoted 0 s.book.member c.old c.fresh c.bid.member c.ask.member
+    → side ≡ requoted 0 s.book.side c.old c.fresh c.bid.side c.ask.side → validity ≡ requoted 0 s.book.validity c.old c.fresh c.bid.validity c.ask.validity
+    → left ≡ requoted 0 s.book.left c.old c.fresh c.bid.left c.ask.left → limit ≡ requoted 0 s.book.limit c.old c.fresh c.bid.limit c.ask.limit
+    → quoted ≡ requoted 0 s.book.quoted c.old c.fresh c.bid.quoted c.ask.quoted
     → with_book s c.given (record { taken = taken; number = number; member = member; side = side; validity = validity; left = left; limit = limit; quoted = quoted }) ≡ requoted_in s c
 requoted-as s c a b d e f g h i = rw (a, b, d, e, f, g, h, i)
 

@@ -7,10 +7,11 @@ ghost use Rattle.session.specs.Sound.{Sound};
 ghost use Rattle.quotation.specs.Quote.{quoted as quote_quoted};
 ghost use Rattle.quotation.specs.QuoteCall.{old_pair, requoted_in, quoted_with};
 
+use book::Book;
 use effects::{QuoteChange, QuoteEffect, quote_effect};
-use quotes::{Pair, quote_place, requote_words, requote8, requote16, requote32};
+use quotes::{Pair, quote_place, requote};
 use session::Session;
-use terms::{Place, QuoteEntry, Side};
+use terms::{QuoteEntry, Side};
 
 #[derive(Clone, Copy)]
 pub struct Quoted {
@@ -21,43 +22,21 @@ pub struct Quoted {
 }
 
 // Where the sides of a member's quote stand.
-pub fn old_pair<'a>(
-    quoted: &'a [u8; Place::COUNT],
-    members: &'a [u16; Place::COUNT],
-    sides: &'a [u8; Place::COUNT],
-    member: u16,
-) -> Pair
-    ensures { result ≡ old_pair quoted.now members.now sides.now member }
+pub fn old_pair(book: &Book, member: u16) -> Pair
+    ensures { result ≡ old_pair book.now.quoted book.now.member book.now.side member }
 {
-    let bid = quote_place(quoted, members, sides, member, Side::BUY);
-    let ask = quote_place(quoted, members, sides, member, Side::SELL);
+    let bid = quote_place(book, member, Side::BUY);
+    let ask = quote_place(book, member, Side::SELL);
     Pair { bid, ask }
 }
 
-// A session with a quote in place of the member's old one, by value; a loop that holds a session makes the same stores in its own.
+// A session with a quote in place of the member's old one, by value; a loop that holds a session writes the same in its own.
 pub fn requoted(mut session: Session, c: QuoteChange) -> Session
     requires { (c.fresh.bid < places) × (c.fresh.ask < places) }
     ensures { result ≡ requoted_in session c }
 {
-    let old = c.old;
-    let fresh = c.fresh;
-    let bid = c.bid;
-    let ask = c.ask;
     session.given = c.given;
-    requote_words(&mut session.book.taken, old, fresh);
-    requote32(&mut session.book.number, old, fresh, bid.number, ask.number);
-    requote16(&mut session.book.member, old, fresh, bid.member, ask.member);
-    requote8(&mut session.book.side, old, fresh, bid.side, ask.side);
-    requote8(
-        &mut session.book.validity,
-        old,
-        fresh,
-        bid.validity,
-        ask.validity,
-    );
-    requote32(&mut session.book.left, old, fresh, bid.left, ask.left);
-    requote32(&mut session.book.limit, old, fresh, bid.limit, ask.limit);
-    requote8(&mut session.book.quoted, old, fresh, bid.quoted, ask.quoted);
+    requote(&mut session.book, c.old, c.fresh, c.bid, c.ask);
     session
 }
 
@@ -83,12 +62,7 @@ pub fn quote(session: Session, e: QuoteEntry) -> Quoted
 {
     let phase = session.phase;
     let parameters = session.parameters;
-    let old = old_pair(
-        &session.book.quoted,
-        &session.book.member,
-        &session.book.side,
-        e.member,
-    );
+    let old = old_pair(&session.book, e.member);
     let effect = quote_effect(
         phase,
         parameters,

@@ -59,7 +59,7 @@ set-some (y ∷ ys) zero (suc j) x n m = m
 set-some (y ∷ ys) (suc i) zero x n m = m
 set-some (y ∷ ys) (suc i) (suc j) x n m = set-some ys i j x n m
 
-emptied-length : (column : List ℕ) (place : ℕ) → length (emptied column place) ≡ length column
+emptied-length : (column : List ℕ) (place : ℕ) → length (emptied 0 column place) ≡ length column
 emptied-length column place = go (is_place place)
   where
     go : (t : Bool) → length (cond t (set column place 0) column) ≡ length column
@@ -114,7 +114,7 @@ module _ {quoted members sides hints : List ℕ} {side : ℕ} (before : Hinted q
   pub hinted-plain : (place m s : ℕ) → Hinted (set quoted place 0) (set members place m) (set sides place s) hints side
   hinted-plain place m s = hinted-at place 0 m s (λ h marked. absurd (let none = set-zero quoted place in omega arith))
 
-  hinted-emptied : (place : ℕ) → Hinted (emptied quoted place) (emptied members place) (emptied sides place) hints side
+  hinted-emptied : (place : ℕ) → Hinted (emptied 0 quoted place) (emptied 0 members place) (emptied 0 sides place) hints side
   hinted-emptied place = go (is_place place)
     where
       go : (t : Bool) → Hinted (cond t (set quoted place 0) quoted) (cond t (set members place 0) members) (cond t (set sides place 0) sides) hints side
@@ -134,7 +134,7 @@ module _ {quoted members sides hints : List ℕ} {side : ℕ} (before : Hinted q
 
 -- A quote in place of the old one, with a hint for its member.
 pub hinted-requoted : {quoted members sides hints : List ℕ} {side : ℕ} → Hinted quoted members sides hints side → length members ≡ places → (old fresh : Pair) (m place : ℕ)
-    → Hinted (requoted quoted old fresh 1 1) (requoted members old fresh m m) (requoted sides old fresh 1 2) (set hints (m % quote_hints) (place + 1)) side
+    → Hinted (requoted 0 quoted old fresh 1 1) (requoted 0 members old fresh m m) (requoted 0 sides old fresh 1 2) (set hints (m % quote_hints) (place + 1)) side
 unfolding requoted
 hinted-requoted {quoted} {members} {sides} {hints} {side} before sized old fresh m place =
     hinted-put (hinted-put (hinted-emptied (hinted-emptied (hinted-more before m place) old.bid) old.ask) emptied-sized fresh.bid 1 m 1 new)
@@ -143,8 +143,8 @@ hinted-requoted {quoted} {members} {sides} {hints} {side} before sized old fresh
     new : hint_of (set hints (m % quote_hints) (place + 1)) m ≢ 0
     new = hint-new hints m place before.sized
 
-    emptied-sized : length (emptied (emptied members old.bid) old.ask) ≡ places
-    emptied-sized = emptied-length (emptied members old.bid) old.ask ∙ emptied-length members old.bid ∙ sized
+    emptied-sized : length (emptied 0 (emptied 0 members old.bid) old.ask) ≡ places
+    emptied-sized = emptied-length (emptied 0 members old.bid) old.ask ∙ emptied-length members old.bid ∙ sized
 
 -- Where a side of the member's quotes rests.
 module _ (quoted members sides : List ℕ) (member side : ℕ) where

@@ -1,5 +1,5 @@
 -- Quotes: 02 K2. Which resting orders are sides of a member's quote, and the book without them.
-use Rattle.std.specs.Prelude.{ℕ, ◌≤◌, ◌<◌, Bool, true, false, cond, ◌&&◌, ◌≡◌, List, eqb, get_or, set}
+use Rattle.std.specs.Prelude.{ℕ, ◌≤◌, ◌<◌, Bool, cond, ◌&&◌, ◌≡◌, List, eqb, get_or, set}
 use Rattle.std.proofs.Common.{lt-ltb, le-ltb}
 use Rattle.terms.specs.Bounds.{places}
 use Rattle.terms.specs.Kinds.{is_place}
@@ -43,18 +43,18 @@ abbrev pub quote_place_in : List ℕ → List ℕ → List ℕ → ℕ → ℕ �
 quote_place_in quoted members sides member side = first_of (is_quote_in quoted members sides member side)
 
 -- a column with a place emptied, where it is one
-abbrev pub emptied : List ℕ → ℕ → List ℕ
-emptied column place = cond (is_place place) (set column place 0) column
+abbrev pub emptied : {A : Type 0} → A → List A → ℕ → List A
+emptied empty column place = cond (is_place place) (set column place empty) column
 
-pub empty-here : (column : List ℕ) (place : ℕ) → place < places → set column place 0 ≡ emptied column place
-empty-here column place h = rw (lt-ltb place places h)
+pub empty-here : {A : Type 0} (empty : A) (column : List A) (place : ℕ) → place < places → set column place empty ≡ emptied empty column place
+empty-here empty column place h = rw (lt-ltb place places h)
 
-pub empty-nowhere : (column : List ℕ) (place : ℕ) → places ≤ place → column ≡ emptied column place
-empty-nowhere column place h = rw (le-ltb place places h)
+pub empty-nowhere : {A : Type 0} (empty : A) (column : List A) (place : ℕ) → places ≤ place → column ≡ emptied empty column place
+empty-nowhere empty column place h = rw (le-ltb place places h)
 
 -- .. with the old sides emptied and the new ones put
-unfoldable pub requoted : List ℕ → Pair → Pair → ℕ → ℕ → List ℕ
-requoted column old fresh bid ask = set (set (emptied (emptied column old.bid) old.ask) fresh.bid bid) fresh.ask ask
+unfoldable pub requoted : {A : Type 0} → A → List A → Pair → Pair → A → A → List A
+requoted empty column old fresh bid ask = set (set (emptied empty (emptied empty column old.bid) old.ask) fresh.bid bid) fresh.ask ask
 
 unfoldable pub requoted_words : List ℕ → Pair → Pair → List ℕ
 requoted_words words old fresh = marked_at (marked_at (unmarked_at (unmarked_at words old.bid) old.ask) fresh.bid) fresh.ask
@@ -63,11 +63,11 @@ requoted_words words old fresh = marked_at (marked_at (unmarked_at (unmarked_at 
 abbrev pub requoted_book : Book → Pair → Pair → Values → Values → Book
 requoted_book b old fresh bid ask = record {
   taken = requoted_words b.taken old fresh;
-  number = requoted b.number old fresh bid.number ask.number;
-  member = requoted b.member old fresh bid.member ask.member;
-  side = requoted b.side old fresh bid.side ask.side;
-  validity = requoted b.validity old fresh bid.validity ask.validity;
-  left = requoted b.left old fresh bid.left ask.left;
-  limit = requoted b.limit old fresh bid.limit ask.limit;
-  quoted = requoted b.quoted old fresh bid.quoted ask.quoted;
+  number = requoted 0 b.number old fresh bid.number ask.number;
+  member = requoted 0 b.member old fresh bid.member ask.member;
+  side = requoted 0 b.side old fresh bid.side ask.side;
+  validity = requoted 0 b.validity old fresh bid.validity ask.validity;
+  left = requoted 0 b.left old fresh bid.left ask.left;
+  limit = requoted 0 b.limit old fresh bid.limit ask.limit;
+  quoted = requoted 0 b.quoted old fresh bid.quoted ask.quoted;
 }

@@ -1,7 +1,7 @@
 -- The book without a member's quote: what of it stays where it is, that it is sound, and that no side of the quote is left (02 K2).
-use Rattle.std.specs.Prelude.{ℕ, ◌≤◌, ◌<◌, Bool, true, false, cond, ◌&&◌, ◌≢◌, ◌↔◌, ◌≡◌, refl, T, eqb, get_or}
-use Rattle.std.proofs.Common.{true≢false, ⊎_elim, sym, ap, subst, ◌∙◌, arith, eqb-true, eq-eqb, ltb-true, ltb-false, lt-ltb}
-use Rattle.lists.specs.Tests.{tests, passes, and_both, and_intro}
+use Rattle.std.specs.Prelude.{ℕ, ◌<◌, Bool, true, false, cond, ◌&&◌, ◌≢◌, ◌↔◌, ◌≡◌, refl, T, eqb, get_or}
+use Rattle.std.proofs.Common.{true≢false, ⊎_elim, sym, ap, subst, ◌∙◌, arith, eqb-true, ltb-true, lt-ltb}
+use Rattle.lists.specs.Tests.{passes, and_both, and_intro}
 use Rattle.lists.specs.Sums.{◌∈◌}
 use Rattle.lists.specs.Choice.{any-intro}
 use Rattle.terms.specs.Bounds.{places}
@@ -12,13 +12,13 @@ use Rattle.terms.proofs.Sides.{same_side-eq, same_side-refl, same_side-number}
 use Rattle.terms.specs.declared.orders.{Side.Side, Side.TheVariants.Buy, Side.TheVariants.Sell}
 use Rattle.book.specs.declared.{Book.Book, Values.Values}
 use Rattle.quotes.specs.declared.{Pair.Pair}
-use Rattle.places.specs.Places.{is_taken, unmarked, marked_at, unmarked_at}
-use Rattle.book.specs.Columns.{values_at, values_of, order_from, order_at, stored, cleared, written}
-use Rattle.book.specs.Resting.{resting, rests_as, first_of, place_of, first-same}
+use Rattle.places.specs.Places.{is_taken, unmarked, unmarked_at}
+use Rattle.book.specs.Columns.{values_of, order_from, order_at, stored, cleared}
+use Rattle.book.specs.Resting.{resting, rests_as, place_of, first-same}
 use Rattle.book.specs.ByPlace.{resting-elim, resting-intro, any-resting, place_found}
-use Rattle.book.specs.Writing.{Sized, SameAt, cleared-free, cleared-elsewhere, cleared-sized}
+use Rattle.book.specs.Writing.{Sized, SameAt, cleared-free, cleared-elsewhere}
 use Rattle.book.specs.Sound.{SoundBook, SameQuote, same_or_not, cleared-sound}
-use Rattle.quotes.specs.Quotes.{is_quote_of, is_quote_side_of, quote_places, cleared_at, without_pair, without_quote, is_quote_in, quote_place_in, requoted, requoted_words, requoted_book}
+use Rattle.quotes.specs.Quotes.{is_quote_of, is_quote_side_of, cleared_at, without_pair, without_quote, is_quote_in, quote_place_in, requoted, requoted_words, requoted_book}
 
 -- A place cleared, where it is one: it is free, and all others are as before.
 module _ (b : Book) (place : ℕ) where

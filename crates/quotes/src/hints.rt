@@ -5,7 +5,7 @@ ghost use Rattle.quotes.specs.Quotes.{quote_place_in};
 ghost use Rattle.terms.specs.Bounds.{places};
 
 use crate::sides::quote_place;
-use book::wide;
+use book::Book;
 use terms::Place;
 
 // Members that are as far apart share one: eight times as many as places, so that few do.
@@ -19,49 +19,34 @@ pub fn quote_hint(hints: &mut [u16; QUOTE_HINTS], member: u16, place: usize)
 }
 
 // The table made anew: a hint for each side of a quote that rests on this side of the book. It is cleared first, which also tells its length.
-pub fn quote_hint_all<'a>(
-    hints: &mut [u16; QUOTE_HINTS],
-    quoted: &'a [u8; Place::COUNT],
-    members: &'a [u16; Place::COUNT],
-    sides: &'a [u8; Place::COUNT],
-    side: u8,
-)
-    ensures { Hinted quoted.now members.now sides.now hints.new side }
+pub fn quote_hint_all(hints: &mut [u16; QUOTE_HINTS], book: &Book, side: u8)
+    ensures { Hinted book.now.quoted book.now.member book.now.side hints.new side }
 {
     *hints = [0u16; QUOTE_HINTS];
-    let mut place: usize = 0;
-    while place < Place::COUNT {
-        if (quoted[place] == 1) & (sides[place] == side) {
-            quote_hint(hints, members[place], place);
+    for place in 0..Place::COUNT {
+        if (book.quoted[place] == 1) & (book.side[place] == side) {
+            quote_hint(hints, book.member[place], place);
         }
-        place += 1;
     }
 }
 
 // The first place that holds a side of the member's quotes, or 512. A member has one of each side: a place that holds it answers for all,
 // and where the hint says another the search goes through the book.
-pub fn quote_place_by_hint<'a>(
-    quoted: &'a [u8; Place::COUNT],
-    members: &'a [u16; Place::COUNT],
-    sides: &'a [u8; Place::COUNT],
-    hints: &'a [u16; QUOTE_HINTS],
-    member: u16,
-    side: u8,
-) -> usize
-    requires { OneQuoteIn quoted.now members.now sides.now × Hinted quoted.now members.now sides.now hints.now side }
-    ensures { result ≡ quote_place_in quoted.now members.now sides.now member side 0 places }
+pub fn quote_place_by_hint(book: &Book, hints: &[u16; QUOTE_HINTS], member: u16, side: u8) -> usize
+    requires { OneQuoteIn book.now.quoted book.now.member book.now.side × Hinted book.now.quoted book.now.member book.now.side hints.now side }
+    ensures { result ≡ quote_place_in book.now.quoted book.now.member book.now.side member side 0 places }
 {
-    let hint = wide(hints[member as usize % QUOTE_HINTS]);
+    let hint = usize::from(hints[member as usize % QUOTE_HINTS]);
     if hint == 0 {
         return Place::COUNT;
     }
     let place = hint - 1;
     if place < Place::COUNT {
-        if quoted[place] == 1 {
-            if (members[place] == member) & (sides[place] == side) {
+        if book.quoted[place] == 1 {
+            if (book.member[place] == member) & (book.side[place] == side) {
                 return place;
             }
         }
     }
-    quote_place(quoted, members, sides, member, side)
+    quote_place(book, member, side)
 }

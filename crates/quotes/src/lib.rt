@@ -5,7 +5,7 @@ mod hints;
 mod sides;
 
 pub use hints::{QUOTE_HINTS, quote_hint, quote_hint_all, quote_place_by_hint};
-pub use sides::{quote_place, requote_words, requote8, requote16, requote32};
+pub use sides::{quote_place, requote};
 
 // The places of a quote's two sides; 512 where one rests nowhere.
 #[derive(Clone, Copy)]

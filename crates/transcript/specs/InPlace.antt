@@ -24,7 +24,7 @@ still-hinted h place m s q plain n t = rw (q, plain, n, t) (hinted-plain h place
 
 -- a quote, hinted at
 pub quote-hinted : {quoted members sides hints : List ℕ} {side : ℕ} → Hinted quoted members sides hints side → length members ≡ places → (old fresh : Pair) (m place : ℕ)
-    {quoted' members' sides' hints' : List ℕ} {x y n b a : ℕ} → quoted' ≡ requoted quoted old fresh x y → x ≡ 1 → y ≡ 1 → members' ≡ requoted members old fresh m n → n ≡ m
-    → sides' ≡ requoted sides old fresh b a → b ≡ 1 → a ≡ 2 → hints' ≡ set hints (m % quote_hints) (place + 1) → Hinted quoted' members' sides' hints' side
+    {quoted' members' sides' hints' : List ℕ} {x y n b a : ℕ} → quoted' ≡ requoted 0 quoted old fresh x y → x ≡ 1 → y ≡ 1 → members' ≡ requoted 0 members old fresh m n → n ≡ m
+    → sides' ≡ requoted 0 sides old fresh b a → b ≡ 1 → a ≡ 2 → hints' ≡ set hints (m % quote_hints) (place + 1) → Hinted quoted' members' sides' hints' side
 quote-hinted h long old fresh m place q x y members one sides buys sells hints =
     rw (q, x, y, members, one, sides, buys, sells, hints) (hinted-requoted h long old fresh m place)

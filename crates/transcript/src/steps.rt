@@ -10,16 +10,15 @@ ghost use Rattle.transcript.specs.Transcript.{auction_line, step};
 ghost use Rattle.transcript.specs.Steps.{record_room, WroteStep, order_doing, delete_doing, quote_doing, QuotesKnown, doing_of};
 
 use crate::{Doing, Stepped};
-use book::{HINTS, place_by_hint};
+use book::{Book, HINTS};
 use calls::AuctionAnswer;
 use controls::Phase;
 use effects::{Effect, QuoteEffect, delete_effect, order_effect, quote_effect};
 use lines::{Line, Word, line_of, trade_lines};
-use places::WORDS;
 use quotes::{Pair, QUOTE_HINTS, quote_place_by_hint};
 use records::{Record, bands_from};
 use session::Session;
-use terms::{OneStep, Parameters, Place, Price, Side, Start};
+use terms::{OneStep, Parameters, Price, Side, Start};
 
 fn order_doing(effect: Effect) -> Doing
     ensures { result ≡ order_doing effect }
@@ -49,54 +48,54 @@ fn quote_doing(effect: QuoteEffect) -> Doing
 }
 
 // Where the sides of a member's quote stand.
-fn old_pair<'a>(
-    quoted: &'a [u8; Place::COUNT],
-    members: &'a [u16; Place::COUNT],
-    sides: &'a [u8; Place::COUNT],
-    bids: &'a [u16; QUOTE_HINTS],
-    asks: &'a [u16; QUOTE_HINTS],
+fn old_pair(
+    book: &Book,
+    bids: &[u16; QUOTE_HINTS],
+    asks: &[u16; QUOTE_HINTS],
     member: u16,
 ) -> Pair
-    requires { QuotesKnown quoted.now members.now sides.now bids.now asks.now }
-    ensures { result ≡ old_pair quoted.now members.now sides.now member }
+    requires { QuotesKnown book.now.quoted book.now.member book.now.side bids.now asks.now }
+    ensures { result ≡ old_pair book.now.quoted book.now.member book.now.side member }
 {
-    let bid = quote_place_by_hint(quoted, members, sides, bids, member, Side::BUY);
-    let ask = quote_place_by_hint(quoted, members, sides, asks, member, Side::SELL);
+    let bid = quote_place_by_hint(book, bids, member, Side::BUY);
+    let ask = quote_place_by_hint(book, asks, member, Side::SELL);
     Pair { bid, ask }
 }
 
 // What a record does, from the parts of the session that decide it; hints only spare a search.
-pub(crate) fn doing_of<'a>(
+pub(crate) fn doing_of(
     asked: Record,
     phase: Phase,
     parameters: Parameters,
     reference: Price,
     given: u32,
-    taken: &'a [u64; WORDS],
-    numbers: &'a [u32; Place::COUNT],
-    members: &'a [u16; Place::COUNT],
-    quoted: &'a [u8; Place::COUNT],
-    sides: &'a [u8; Place::COUNT],
-    hints: &'a [u16; HINTS],
-    bids: &'a [u16; QUOTE_HINTS],
-    asks: &'a [u16; QUOTE_HINTS],
+    book: &Book,
+    hints: &[u16; HINTS],
+    bids: &[u16; QUOTE_HINTS],
+    asks: &[u16; QUOTE_HINTS],
 ) -> Doing
-    requires { Numbered taken.now numbers.now given × QuotesKnown quoted.now members.now sides.now bids.now asks.now }
-    ensures { result ≡ doing_of asked phase parameters reference given taken.now numbers.now members.now quoted.now sides.now }
+    requires { Numbered book.now.taken book.now.number given × QuotesKnown book.now.quoted book.now.member book.now.side bids.now asks.now }
+    ensures { result ≡ doing_of asked phase parameters reference given book.now.taken book.now.number book.now.member book.now.quoted book.now.side }
 {
     match asked {
         Record::Start(p) => Doing::Start(p),
         Record::Order(e) => order_doing(order_effect(
-            phase, parameters, reference, false, given, taken, e,
+            phase,
+            parameters,
+            reference,
+            false,
+            given,
+            &book.taken,
+            e,
         )),
         Record::Delete(d) => {
-            let place = place_by_hint(taken, numbers, members, hints, given, d.number, d.member);
-            delete_doing(delete_effect(phase, given, taken, place, d.number, d.member))
+            let place = book.place_by_hint(hints, given, d.number, d.member);
+            delete_doing(delete_effect(phase, given, &book.taken, place, d.number, d.member))
         }
         Record::Auction(which) => Doing::Auction(which),
         Record::Quote(e) => {
-            let old = old_pair(quoted, members, sides, bids, asks, e.member);
-            quote_doing(quote_effect(phase, parameters, reference, false, given, taken, old, e))
+            let old = old_pair(book, bids, asks, e.member);
+            quote_doing(quote_effect(phase, parameters, reference, false, given, &book.taken, old, e))
         }
         Record::Bands(_) => Doing::Bands,
     }

@@ -7,12 +7,9 @@ ghost use Rattle.transcript.specs.Told.{next_told, records_told, halt_of};
 
 use crate::steps::{auction_written, bands_written, doing_of, start_written};
 use crate::{Doing, Next, Stop, Telling};
-use book::{HINTS, hint, hint_all, put8, put16, put32};
+use book::{HINTS, hint, hint_all};
 use lines::{LINE_ROOM, Line, TRADE_ROOM, done_line, line_of, quote_line};
-use places::{WORD_PLACES, put_word};
-use quotes::{
-    QUOTE_HINTS, quote_hint, quote_hint_all, requote_words, requote8, requote16, requote32,
-};
+use quotes::{QUOTE_HINTS, quote_hint, quote_hint_all, requote};
 use records::{Piece, read_at};
 use session::Session;
 use terms::Side;
@@ -35,8 +32,8 @@ pub fn next_told(bytes: &[u8], place: usize, ended: bool, room: usize) -> Next
     }
 }
 
-// The records, one by one. One session stands through all of them, and a change is stored in it here, column by column: a column
-// is lent to a call, where a session by value would be copied for each record.
+// The records, one by one. One session stands through all of them, and a change is written in it here: its book is lent to a call, where a
+// session by value would be copied for each record.
 pub fn records_told(
     session: Session,
     answered: u64,
@@ -52,21 +49,9 @@ pub fn records_told(
     hint_all(&mut hints, &session.book.number);
     let mut present = session;
     let mut bids = [0u16; QUOTE_HINTS];
-    quote_hint_all(
-        &mut bids,
-        &present.book.quoted,
-        &present.book.member,
-        &present.book.side,
-        Side::BUY,
-    );
+    quote_hint_all(&mut bids, &present.book, Side::BUY);
     let mut asks = [0u16; QUOTE_HINTS];
-    quote_hint_all(
-        &mut asks,
-        &present.book.quoted,
-        &present.book.member,
-        &present.book.side,
-        Side::SELL,
-    );
+    quote_hint_all(&mut asks, &present.book, Side::SELL);
     let mut count = answered;
     let mut place: usize = 0;
     let mut at: usize = 0;
@@ -86,11 +71,7 @@ pub fn records_told(
                     parameters,
                     parameters.reference,
                     present.given,
-                    &present.book.taken,
-                    &present.book.number,
-                    &present.book.member,
-                    &present.book.quoted,
-                    &present.book.side,
+                    &present.book,
                     &hints,
                     &bids,
                     &asks,
@@ -100,40 +81,17 @@ pub fn records_told(
                         at = line_of(out, at, count, Line::numbered(word, answer, 0));
                     }
                     Doing::Done(word, c) => {
-                        let spot = c.place;
-                        let values = c.values;
                         present.given = c.given;
-                        put_word(&mut present.book.taken, spot / WORD_PLACES, c.word);
-                        put32(&mut present.book.number, spot, values.number);
-                        put16(&mut present.book.member, spot, values.member);
-                        put8(&mut present.book.side, spot, values.side);
-                        put8(&mut present.book.validity, spot, values.validity);
-                        put32(&mut present.book.left, spot, values.left);
-                        put32(&mut present.book.limit, spot, values.limit);
-                        put8(&mut present.book.quoted, spot, values.quoted);
-                        hint(&mut hints, values.number, spot);
+                        present.book.write(c.place, c.word, c.values);
+                        hint(&mut hints, c.values.number, c.place);
                         at = done_line(out, at, count, word, c.given);
                     }
                     Doing::Quoted(c) => {
-                        let old = c.old;
                         let fresh = c.fresh;
                         let bid = c.bid;
                         let ask = c.ask;
                         present.given = c.given;
-                        requote_words(&mut present.book.taken, old, fresh);
-                        requote32(&mut present.book.number, old, fresh, bid.number, ask.number);
-                        requote16(&mut present.book.member, old, fresh, bid.member, ask.member);
-                        requote8(&mut present.book.side, old, fresh, bid.side, ask.side);
-                        requote8(
-                            &mut present.book.validity,
-                            old,
-                            fresh,
-                            bid.validity,
-                            ask.validity,
-                        );
-                        requote32(&mut present.book.left, old, fresh, bid.left, ask.left);
-                        requote32(&mut present.book.limit, old, fresh, bid.limit, ask.limit);
-                        requote8(&mut present.book.quoted, old, fresh, bid.quoted, ask.quoted);
+                        requote(&mut present.book, c.old, fresh, bid, ask);
                         hint(&mut hints, bid.number, fresh.bid);
                         hint(&mut hints, ask.number, fresh.ask);
                         quote_hint(&mut bids, bid.member, fresh.bid);
@@ -145,60 +103,24 @@ pub fn records_told(
                         let later = r.session;
                         present = later;
                         at = r.at;
-                        quote_hint_all(
-                            &mut bids,
-                            &present.book.quoted,
-                            &present.book.member,
-                            &present.book.side,
-                            Side::BUY,
-                        );
-                        quote_hint_all(
-                            &mut asks,
-                            &present.book.quoted,
-                            &present.book.member,
-                            &present.book.side,
-                            Side::SELL,
-                        );
+                        quote_hint_all(&mut bids, &present.book, Side::BUY);
+                        quote_hint_all(&mut asks, &present.book, Side::SELL);
                     }
                     Doing::Auction(which) => {
                         let r = auction_written(present, which, list, count, out, at);
                         let later = r.session;
                         present = later;
                         at = r.at;
-                        quote_hint_all(
-                            &mut bids,
-                            &present.book.quoted,
-                            &present.book.member,
-                            &present.book.side,
-                            Side::BUY,
-                        );
-                        quote_hint_all(
-                            &mut asks,
-                            &present.book.quoted,
-                            &present.book.member,
-                            &present.book.side,
-                            Side::SELL,
-                        );
+                        quote_hint_all(&mut bids, &present.book, Side::BUY);
+                        quote_hint_all(&mut asks, &present.book, Side::SELL);
                     }
                     Doing::Bands => {
                         let r = bands_written(present, bytes, from, count, out, at);
                         let later = r.session;
                         present = later;
                         at = r.at;
-                        quote_hint_all(
-                            &mut bids,
-                            &present.book.quoted,
-                            &present.book.member,
-                            &present.book.side,
-                            Side::BUY,
-                        );
-                        quote_hint_all(
-                            &mut asks,
-                            &present.book.quoted,
-                            &present.book.member,
-                            &present.book.side,
-                            Side::SELL,
-                        );
+                        quote_hint_all(&mut bids, &present.book, Side::BUY);
+                        quote_hint_all(&mut asks, &present.book, Side::SELL);
                     }
                 }
             }

@@ -6,8 +6,6 @@ use native.Mathlib.Omega.{arith}
 use lib.ListN.{length}
 use lib.Seq.{length-take-le}
 use Rattle.terms.specs.Bounds.{places}
-use Rattle.places.specs.Words.{behind-within}
-use Rattle.book.specs.Settling.{settled-as}
 use Rattle.auction.proofs.TradingLaws.{asks-part}
 use Rattle.terms.specs.declared.orders.{Auction.Auction}
 use Rattle.auction.specs.declared.{Outcome.Outcome}
@@ -17,7 +15,7 @@ use Rattle.answers.proofs.AuctionCalls.{course_now, course-planned, course-price
 use borrow.Author.Rules.{rules}
 use Rattle.answers.proofs.auction.Goals as goal
 use Rattle.answers.proofs.auction.Goals.{in-TakesPlace, in_default}
-use Rattle.answers.proofs.auction.Goals.{After-behind_taken-end, After-planned-plan, Joined-course}
+use Rattle.answers.proofs.auction.Goals.{After-planned-plan, Joined-course}
 
 -- the ranks of both sides
 abbrev ranks : After-planned-plan → List ℕ
@@ -27,34 +25,6 @@ ranks c = c.planned-plan.new.ranks
 course-is : (c : After-planned-plan) → let a = c.args in c.planned-plan.result.course ≡ course_now a.session c.requires a.which a.list.now
 course-is c = let a = c.args in
     course-planned a.session c.requires a.which a.list.now c.number.result c.number-2.result c.number.ensures c.number-2.ensures c.planned-plan.ensures
-
--- the end is within the places
-within : (c : After-behind_taken-end) → c.behind_taken-end.result ≤ places
-within c = rw c.behind_taken-end.ensures (behind-within _)
-
-pub settle_words-requires : goal.settle_words-requires
-settle_words-requires c = within (goal.at.settle_words-requires c).After-behind_taken-end
-
-pub settle32-requires : goal.settle32-requires
-settle32-requires c = within (goal.at.settle32-requires c).After-behind_taken-end
-
-pub settle16-requires : goal.settle16-requires
-settle16-requires c = within (goal.at.settle16-requires c).After-behind_taken-end
-
-pub settle8-requires : goal.settle8-requires
-settle8-requires c = within (goal.at.settle8-requires c).After-behind_taken-end
-
-pub settle8-requires-in-TakesPlace : goal.settle8-requires-in-TakesPlace
-settle8-requires-in-TakesPlace c = within (goal.at.settle8-requires-in-TakesPlace c).After-behind_taken-end
-
-pub settle_left-requires : goal.settle_left-requires
-settle_left-requires c = within (goal.at.settle_left-requires c).After-behind_taken-end
-
-pub settle32-requires-in-TakesPlace : goal.settle32-requires-in-TakesPlace
-settle32-requires-in-TakesPlace c = within (goal.at.settle32-requires-in-TakesPlace c).After-behind_taken-end
-
-pub settle8-requires-in-TakesPlace-2 : goal.settle8-requires-in-TakesPlace-2
-settle8-requires-in-TakesPlace-2 c = within (goal.at.settle8-requires-in-TakesPlace-2 c).After-behind_taken-end
 
 -- where both ways meet, the course is still that one
 course-met : (c : Joined-course) → ◌≡◌ {A = Course} c.match-course.course c.planned-plan.result.course
@@ -81,17 +51,7 @@ returns c = let a = c.args in
       | in-TakesPlace w ↦ leaves-taken a.session c.requires a.which a.list.now c.match-course.course (course-at (goal.at.returns c).Joined-course) c.match-course.session c.match-course.count c.match-course.list
           c.answer_of-answer.result c.answer_of-answer.ensures c.result_of-result.result c.result_of-result.ensures c.standing_after-standing.result c.standing_after-standing.ensures
           w.course-is (ranks (goal.at.returns c).After-planned-plan) planned.result.bids planned.result.asks planned.ensures.buys planned.ensures.sells
-          (record {
-            taken = w.settle_words.new.taken;
-            number = w.settle32.new.column;
-            member = w.settle16.new.column;
-            side = w.settle8.new.column;
-            validity = w.settle8-in-TakesPlace.new.column;
-            left = w.settle_left.new.lefts;
-            limit = w.settle32-in-TakesPlace.new.column;
-            quoted = w.settle8-in-TakesPlace-2.new.column;
-          }) w.session-is w.traded-closed.result w.count-is (let e = rw (asks-part planned.result.bids planned.result.asks (ranks (goal.at.returns c).After-planned-plan), w.price_of.ensures, w.quantity_of.ensures) at w.traded-closed.ensures in (e.0, e.1, λ h. w.list-is ∙ e.2 h)) w.behind_taken-end.result w.behind_taken-end.ensures
-          (settled-as w.traded-closed.result.rests a.session.book w.behind_taken-end.result w.settle_words.ensures w.settle32.ensures w.settle16.ensures w.settle8.ensures w.settle8-in-TakesPlace.ensures w.settle_left.ensures w.settle32-in-TakesPlace.ensures w.settle8-in-TakesPlace-2.ensures)
+          w.settle.new.self w.session-is w.traded-closed.result w.count-is (let e = rw (asks-part planned.result.bids planned.result.asks (ranks (goal.at.returns c).After-planned-plan), w.price_of.ensures, w.quantity_of.ensures) at w.traded-closed.ensures in (e.0, e.1, λ h. w.list-is ∙ e.2 h)) _ refl w.settle.ensures
       | in_default w ↦ leaves_kept a.session c.requires a.which a.list.now c.match-course.course (course-at (goal.at.returns c).Joined-course) c.match-course.session c.match-course.count c.match-course.list
           c.answer_of-answer.result c.answer_of-answer.ensures c.result_of-result.result c.result_of-result.ensures c.standing_after-standing.result c.standing_after-standing.ensures
           (ap takes_place w.course-is ∙ not-taking planned.result.course w.in_default.not-TakesPlace) w.session-is w.count-is w.list-is

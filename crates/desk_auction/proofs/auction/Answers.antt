@@ -7,8 +7,6 @@ use native.Mathlib.Omega.{arith}
 use lib.ListN.{length, get_or, take, drop}
 use lib.Seq.{length-take-le}
 use Rattle.terms.specs.Bounds.{places}
-use Rattle.places.specs.Words.{behind-within}
-use Rattle.book.specs.Settling.{settled-as}
 use Rattle.trades.specs.declared.{Trade.Trade}
 use Rattle.auction.specs.Outcome.{quantity_answered}
 use Rattle.auction.specs.Trading.{trades_in}
@@ -31,7 +29,7 @@ use Rattle.desk_auction.proofs.auction.Goals as goal
 use Rattle.desk_auction.proofs.auction.Goals.{in-TakesPlace, in_default}
 use Rattle.terms.specs.declared.orders.{Auction.Auction}
 use Rattle.auction.specs.declared.{Outcome.Outcome}
-use Rattle.desk_auction.proofs.auction.Goals.{After-behind_taken-end, After-planned-plan, After-traded-closed, Joined-course}
+use Rattle.desk_auction.proofs.auction.Goals.{After-planned-plan, After-traded-closed, Joined-course}
 
 -- the ranks of both sides
 abbrev ranks : After-planned-plan → List ℕ
@@ -41,10 +39,6 @@ ranks c = c.planned-plan.new.ranks
 course-is : (c : After-planned-plan) → let a = c.args in c.planned-plan.result.course ≡ course_now a.desk.session c.requires.inner a.which a.list.now
 course-is c = let a = c.args in
     course-planned a.desk.session c.requires.inner a.which a.list.now c.number.result c.number-2.result c.number.ensures c.number-2.ensures c.planned-plan.ensures
-
--- the end is within the places
-within : (c : After-behind_taken-end) → c.behind_taken-end.result ≤ places
-within c = rw c.behind_taken-end.ensures (behind-within _)
 
 -- what the trading by places leaves
 traded-is : (c : After-traded-closed)
@@ -65,30 +59,6 @@ clear_trades-requires c = let d = c.args.desk in
       placed d sound which list c.planned-plan.result.course (course-is (goal.at.clear_trades-requires c).After-planned-plan) takes (ranks (goal.at.clear_trades-requires c).After-planned-plan) c.planned-plan.result.bids c.planned-plan.result.asks c.planned-plan.ensures.buys c.planned-plan.ensures.sells c.traded-closed.result _ traded,
       below d sound which list c.planned-plan.result.course (course-is (goal.at.clear_trades-requires c).After-planned-plan) takes (ranks (goal.at.clear_trades-requires c).After-planned-plan) c.planned-plan.result.bids c.planned-plan.result.asks c.planned-plan.ensures.buys c.planned-plan.ensures.sells c.traded-closed.result _ traded,
     )
-
-pub settle_words-requires : goal.settle_words-requires
-settle_words-requires c = within (goal.at.settle_words-requires c).After-behind_taken-end
-
-pub settle32-requires : goal.settle32-requires
-settle32-requires c = within (goal.at.settle32-requires c).After-behind_taken-end
-
-pub settle16-requires : goal.settle16-requires
-settle16-requires c = within (goal.at.settle16-requires c).After-behind_taken-end
-
-pub settle8-requires : goal.settle8-requires
-settle8-requires c = within (goal.at.settle8-requires c).After-behind_taken-end
-
-pub settle8-requires-in-TakesPlace : goal.settle8-requires-in-TakesPlace
-settle8-requires-in-TakesPlace c = within (goal.at.settle8-requires-in-TakesPlace c).After-behind_taken-end
-
-pub settle_left-requires : goal.settle_left-requires
-settle_left-requires c = within (goal.at.settle_left-requires c).After-behind_taken-end
-
-pub settle32-requires-in-TakesPlace : goal.settle32-requires-in-TakesPlace
-settle32-requires-in-TakesPlace c = within (goal.at.settle32-requires-in-TakesPlace c).After-behind_taken-end
-
-pub settle8-requires-in-TakesPlace-2 : goal.settle8-requires-in-TakesPlace-2
-settle8-requires-in-TakesPlace-2 c = within (goal.at.settle8-requires-in-TakesPlace-2 c).After-behind_taken-end
 
 -- where both ways meet, the course is still that one
 course-met : (c : Joined-course) → ◌≡◌ {A = Course} c.match-course.course c.planned-plan.result.course
@@ -123,19 +93,9 @@ returns c = let a = c.args in
           (leaves-taken d.session sound.inner a.which a.list.now course (course-at (goal.at.returns c).Joined-course) c.match-course.session c.match-course.count c.match-course.list
           c.answer_of-answer.result c.answer_of-answer.ensures c.result_of-result.result c.result_of-result.ensures c.standing_after-standing.result c.standing_after-standing.ensures
           w.course-is (ranks (goal.at.returns c).After-planned-plan) c.planned-plan.result.bids c.planned-plan.result.asks c.planned-plan.ensures.buys c.planned-plan.ensures.sells
-          (record {
-            taken = w.settle_words.new.taken;
-            number = w.settle32.new.column;
-            member = w.settle16.new.column;
-            side = w.settle8.new.column;
-            validity = w.settle8-in-TakesPlace.new.column;
-            left = w.settle_left.new.lefts;
-            limit = w.settle32-in-TakesPlace.new.column;
-            quoted = w.settle8-in-TakesPlace-2.new.column;
-          }) w.session-is w.traded-closed.result w.count-is
+          w.settle.new.self w.session-is w.traded-closed.result w.count-is
           (counted-by-numbers d sound a.which a.list.now course (course-at (goal.at.returns c).Joined-course) w.course-is (ranks (goal.at.returns c).After-planned-plan) c.planned-plan.result.bids c.planned-plan.result.asks c.planned-plan.ensures.buys c.planned-plan.ensures.sells w.traded-closed.result w.traded-closed.new.list traded c.match-course.list list)
-          w.behind_taken-end.result w.behind_taken-end.ensures
-          (settled-as w.traded-closed.result.rests d.session.book w.behind_taken-end.result w.settle_words.ensures w.settle32.ensures w.settle16.ensures w.settle8.ensures w.settle8-in-TakesPlace.ensures w.settle_left.ensures w.settle32-in-TakesPlace.ensures w.settle8-in-TakesPlace-2.ensures))
+          _ refl w.settle.ensures)
           c.match-course.totals
           (rw counted (cells-after d sound a.which a.list.now course (course-at (goal.at.returns c).Joined-course) w.course-is (ranks (goal.at.returns c).After-planned-plan) c.planned-plan.result.bids c.planned-plan.result.asks c.planned-plan.ensures.buys c.planned-plan.ensures.sells w.traded-closed.result w.traded-closed.new.list traded c.match-course.list list c.match-course.totals totals))
       | in_default w ↦

@@ -1,7 +1,4 @@
-use borrow.Author.Rules.{rules}
-use Prim.Native.Nat.{◌-◌, ◌≤◌}
-use mathlib.Core.Path.{◌≡◌}
-use native.Mathlib.Omega.{arith}
+use Rattle.std.proofs.Common.{rules}
 use Rattle.book.specs.Settling.{left_to, left-next}
 use Rattle.book.proofs.settling.settle_left.Goals as goal
 
@@ -10,5 +7,6 @@ unfolding left_to
 loop-place-init c = search rules
 
 pub loop-place-preserved : goal.loop-place-preserved
-loop-place-preserved c = let a = c.args in
-    (omega arith, left-next a.rests.now a.lefts.now c.loop-place.lefts c.loop-place.place c.loop-place.invariant.1)
+loop-place-preserved c =
+    let a = c.args in
+    left-next a.rests.now a.lefts.now c.loop-place.lefts c.loop-place.place c.loop-place.invariant

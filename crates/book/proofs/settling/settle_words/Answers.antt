@@ -1,19 +1,18 @@
-use borrow.Author.Rules.{rules}
+use Rattle.std.proofs.Common.{◌∙◌, rules}
 use borrow.Author.Tests.{ne_eqb}
-use Prim.Native.Nat.{◌-◌, ◌≤◌}
-use mathlib.Core.Path.{◌≡◌}
-use native.Mathlib.Omega.{arith}
 use Rattle.book.specs.Settling.{words_to, words-freed, words-kept}
 use Rattle.book.proofs.settling.settle_words.Goals as goal
+use Rattle.book.proofs.settling.settle_words.Goals.{then-is_free, else-is_free}
 
-pub loop-next-init : goal.loop-next-init
+pub loop-place-init : goal.loop-place-init
 unfolding words_to
-loop-next-init c = search rules
+loop-place-init c = search rules
 
-pub loop-next-preserved-then-rests-place-eq0 : goal.loop-next-preserved-then-rests-place-eq0
-loop-next-preserved-then-rests-place-eq0 c = let a = c.args in
-    (omega (arith, c.loop-next-test.true), words-freed a.rests.now a.taken.now c.loop-next.taken c.loop-next.next c.loop-next.invariant.1 c.if-rests-place-eq0.true _ c.unmark.ensures)
-
-pub loop-next-preserved : goal.loop-next-preserved
-loop-next-preserved c = let a = c.args in
-    (omega (arith, c.loop-next-test.true), words-kept a.rests.now a.taken.now c.loop-next.taken c.loop-next.next c.loop-next.invariant.1 (ne_eqb _ 0 c.if-rests-place-eq0.false))
+pub loop-place-preserved : goal.loop-place-preserved
+loop-place-preserved c =
+    let a = c.args in
+    let l = c.loop-place in
+    elim c.if-is_free.branch [
+      | then-is_free w ↦ words-freed a.rests.now a.taken.now l.taken l.place l.invariant w.if-is_free.true _ (w.taken-is ∙ w.unmark.ensures)
+      | else-is_free w ↦ w.taken-is ∙ words-kept a.rests.now a.taken.now l.taken l.place l.invariant (ne_eqb _ 0 w.if-is_free.false)
+    ]

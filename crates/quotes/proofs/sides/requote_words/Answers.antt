@@ -1,4 +1,3 @@
-use borrow.Author.Rules.{rules}
 use Rattle.quotes.specs.Quotes.{requoted_words}
 use Rattle.quotes.proofs.sides.requote_words.Goals as goal
 
