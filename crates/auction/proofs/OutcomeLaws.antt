@@ -9,7 +9,8 @@ use Rattle.terms.specs.Orders.{Resting}
 use Rattle.price.specs.Interest.{executable}
 use Rattle.price.specs.Chain.{auction_price}
 use Rattle.auction.specs.declared.{Outcome.TheVariants.Traded, Outcome.TheVariants.NoTrade, Outcome.TheVariants.NonOpening, Outcome.TheVariants.Delayed}
-use Rattle.auction.specs.Outcome.{Held, delays, outcome, prevented, priced, takes_place, unheld}
+use Rattle.auction.specs.declared.Held.{Held}
+use Rattle.auction.specs.Outcome.{delays, outcome, prevented, priced, takes_place, unheld}
 
 -- What an outcome says of the price.
 module _ (held : Held) (threshold reference : ℕ) (book : List Resting) where

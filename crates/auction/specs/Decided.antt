@@ -2,7 +2,8 @@
 use Rattle.std.specs.Prelude.{ℕ, cond, ◌&&◌, eqb}
 use Rattle.price.specs.declared.search.{Found.Found}
 use Rattle.auction.specs.declared.{Outcome.Outcome, Outcome.TheVariants.Traded, Outcome.TheVariants.NoTrade, Outcome.TheVariants.NonOpening, Outcome.TheVariants.Delayed}
-use Rattle.auction.specs.Outcome.{Held, exceeds, delays}
+use Rattle.auction.specs.declared.Held.{Held}
+use Rattle.auction.specs.Outcome.{exceeds, delays}
 
 unfoldable pub outcome_from : Held → ℕ → ℕ → Found → ℕ → ℕ → Outcome
 outcome_from held threshold reference found buys sells =

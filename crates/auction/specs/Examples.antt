@@ -11,7 +11,8 @@ use Rattle.trades.specs.declared.{Trade.Trade}
 use Rattle.auction.specs.declared.{Outcome.Outcome}
 use Rattle.trades.specs.Trades.{traded}
 use Rattle.trades.specs.TradesOf.{fills, trades_of}
-use Rattle.auction.specs.Outcome.{Held, non_opening, outcome}
+use Rattle.auction.specs.declared.Held.{Held}
+use Rattle.auction.specs.Outcome.{non_opening, outcome}
 use Rattle.auction.specs.After.{rest_of}
 
 unfoldable pub computing : Unit {0}

@@ -13,7 +13,7 @@ use Rattle.price.specs.Chain.{auction_price}
 use Rattle.trades.specs.declared.{Trade.Trade}
 use Rattle.auction.specs.declared.{Outcome.Outcome, Outcome.TheVariants.Traded, Outcome.TheVariants.NoTrade, Outcome.TheVariants.NonOpening, Outcome.TheVariants.Delayed}
 use Rattle.trades.specs.TradesOf.{left_of, trades_of}
-pub use Rattle.auction.specs.declared.Held.{Held}
+use Rattle.auction.specs.declared.Held.{Held}
 
 -- the unlimited quantity taking part on a side
 abbrev pub unlimited : Side → List Resting → ℕ

@@ -9,7 +9,7 @@ use Rattle.fills.specs.Shares.{shares_of, lessened}
 use Rattle.price.specs.Search.{offered, searched_in}
 use Rattle.trades.specs.declared.{Trade.Trade}
 use Rattle.auction.specs.declared.{Outcome.Outcome}
-use Rattle.auction.specs.Outcome.{Held}
+use Rattle.auction.specs.declared.Held.{Held}
 use Rattle.auction.specs.Decided.{outcome_from}
 use Rattle.auction.specs.Ended.{ended}
 use Rattle.trades.specs.OverShares.{paired_shares}
