@@ -6,7 +6,8 @@ use Rattle.terms.specs.declared.orders.{Auction.Auction}
 use Rattle.book.specs.Resting.{changed}
 use Rattle.trades.specs.declared.{Trade.Trade}
 use Rattle.auction.specs.declared.{Outcome.Outcome, Outcome.TheVariants.Traded, Outcome.TheVariants.NoTrade, Outcome.TheVariants.NonOpening, Outcome.TheVariants.Delayed}
-use Rattle.auction.specs.Outcome.{Held, outcome, trades, price_answered}
+use Rattle.auction.specs.declared.Held.{Held}
+use Rattle.auction.specs.Outcome.{outcome, trades, price_answered}
 use Rattle.auction.specs.After.{rest_of}
 use Rattle.trades.specs.Written.{trades_written}
 use Rattle.session.specs.declared.{Session.Session}

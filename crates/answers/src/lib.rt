@@ -34,11 +34,7 @@ pub fn auction(mut session: Session, which: u8, list: &mut [u32]) -> Auctioned
         session.delayed,
         parameters.threshold.number(),
         session.reference.number(),
-        &session.book.side,
-        &session.book.validity,
-        &session.book.limit,
-        &session.book.number,
-        &session.book.left,
+        &session.book,
         &mut ranks,
     );
     let course = plan.course;
@@ -52,8 +48,7 @@ pub fn auction(mut session: Session, which: u8, list: &mut [u32]) -> Auctioned
             price_of(outcome),
             quantity_of(outcome),
             &session.book.number,
-            &session.book.validity,
-            &session.book.left,
+            &session.book,
             &both[..bids],
             &both[bids..behind],
             list,

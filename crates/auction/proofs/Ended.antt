@@ -2,14 +2,13 @@
 use Prim.Native.Nat.{ℕ, zero, suc, ◌+◌, ◌-◌, ◌≤◌, ◌<◌}
 use Rattle.std.specs.Prelude.{Bool, ◌||◌, ◌≡◌, List, eqb, length, get_or, set}
 use Rattle.std.proofs.Math.Bool.{true, false, cond}
-use Rattle.std.proofs.Math.Option.{Option, none, some}
+use Rattle.std.proofs.Math.Option.{none, some}
 use Rattle.std.proofs.Math.Logic.{⊎_elim}
 use Rattle.std.proofs.Math.Path.{refl, ap}
-use Rattle.std.proofs.Common.{sym, ◌∙◌, add-one, arith, get_or-set_same}
+use Rattle.std.proofs.Common.{◌∙◌, add-one, arith, get_or-set_same}
 use Rattle.std.proofs.Math.ListN.{length-set}
 use Rattle.std.proofs.Math.Seq.{get_or-set_other}
 use Rattle.terms.specs.Bounds.{places}
-use Rattle.terms.specs.Orders.{Resting, validity_from}
 use Rattle.terms.specs.declared.orders.{Auction.Auction}
 use Rattle.book.specs.declared.Book.{Book}
 use Rattle.book.specs.Columns.{values_at, order_from, order_at, with_left}
@@ -17,7 +16,7 @@ use Rattle.book.specs.Sound.{same_or_not}
 use Rattle.book.specs.Settling.{rest_from}
 use Rattle.trades.specs.declared.{Trade.Trade}
 use Rattle.trades.specs.Trades.{traded}
-use Rattle.auction.specs.After.{remaining, ends, rest_of}
+use Rattle.auction.specs.After.{ends, rest_of}
 use Rattle.auction.specs.Ended.{ended, ended_to, rest_with}
 
 module _ (a : Auction) (validities lefts : List ℕ) where

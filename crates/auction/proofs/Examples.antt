@@ -1,19 +1,11 @@
 -- Worked examples: the outcomes, the trades of 01 "Session file", and what leaves the book.
-use Rattle.std.specs.Prelude.{ℕ, true, false, ◌≡◌, refl, List, [], ◌∷◌}
+use Rattle.std.specs.Prelude.{◌≡◌, refl, [], ◌∷◌}
 use Rattle.std.proofs.Math.Option.{some, none}
-use Rattle.lists.specs.Sums.{apart}
 use Rattle.terms.specs.Samples.{order, buy, sell, buy_any}
-use Rattle.terms.specs.Orders.{Resting, at_price}
+use Rattle.terms.specs.Orders.{at_price}
 use Rattle.terms.specs.declared.orders.{Side.TheVariants.Buy, Validity.TheVariants.AtOpening, Validity.TheVariants.AtClose, Validity.TheVariants.Day, Validity.TheVariants.LaterDay, Auction.TheVariants.Opening, Auction.TheVariants.Closing}
-use Rattle.queue.specs.Rank.{ranked}
-use Rattle.price.specs.Interest.{interest}
-use Rattle.price.specs.Candidates.{most_executable}
-use Rattle.price.specs.Chain.{auction_price}
-use Rattle.trades.specs.declared.{Trade.Trade}
-use Rattle.auction.specs.declared.{Outcome.Outcome, Outcome.TheVariants.Traded, Outcome.TheVariants.NoTrade, Outcome.TheVariants.NonOpening, Outcome.TheVariants.Delayed}
-use Rattle.trades.specs.Trades.{traded}
-use Rattle.trades.specs.TradesOf.{fills, trades_of}
-use Rattle.auction.specs.Outcome.{Held, unheld, non_opening, outcome, trades}
+use Rattle.auction.specs.declared.{Outcome.TheVariants.Traded, Outcome.TheVariants.NoTrade, Outcome.TheVariants.NonOpening, Outcome.TheVariants.Delayed}
+use Rattle.auction.specs.Outcome.{unheld, trades}
 use Rattle.auction.specs.After.{rest_of}
 use Rattle.auction.specs.Examples.{computing, held_by_both, held_by_unlimited, outcome_on, trade, worked_book}
 

@@ -30,7 +30,8 @@ use Rattle.price.proofs.Ladder.{sum-below-front, offered-is-interest}
 use Rattle.price.proofs.SearchFinds.{searched-most, searched-price}
 use Rattle.trades.proofs.TradesOf.{queue-left}
 use Rattle.auction.proofs.NonOpening.{unlimited-front}
-use Rattle.auction.specs.Outcome.{Held, unlimited, outcome}
+use Rattle.auction.specs.declared.Held.{Held}
+use Rattle.auction.specs.Outcome.{unlimited, outcome}
 use Rattle.auction.proofs.Decided.{decided}
 use Rattle.auction.specs.Trading.{ranks_on, unlimited_in, outcome_in}
 

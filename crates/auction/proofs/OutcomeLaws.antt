@@ -1,22 +1,16 @@
 -- The outcome: 01 "Outcomes", in its order. `book` is the list of orders taking part.
-use Rattle.std.specs.Prelude.{ℕ, ◌*◌, Bool, ◌&&◌, ◌||◌, ◌↔◌, refl, List, [], leb, ltb, length}
+use Rattle.std.specs.Prelude.{ℕ, Bool, ◌↔◌, refl, List}
 use Rattle.std.proofs.Math.Bool.{true, false, cond}
 use Rattle.std.proofs.Math.Option.{Option, none, some}
 use Rattle.std.proofs.Math.Path.{◌≡◌}
 use Rattle.std.proofs.Common.{ap, arith}
 use Rattle.std.proofs.Math.Dec.{T}
-use Rattle.lists.specs.Sums.{apart}
-use Rattle.terms.specs.Bounds.{hundredths_of_percent}
 use Rattle.terms.specs.Orders.{Resting}
-use Rattle.terms.specs.declared.orders.{Side.Side, Side.TheVariants.Buy, Side.TheVariants.Sell}
-use Rattle.queue.specs.Sides.{is_unlimited}
 use Rattle.price.specs.Interest.{executable}
-use Rattle.price.specs.Candidates.{most_executable}
 use Rattle.price.specs.Chain.{auction_price}
-use Rattle.trades.specs.declared.{Trade.Trade}
-use Rattle.auction.specs.declared.{Outcome.Outcome, Outcome.TheVariants.Traded, Outcome.TheVariants.NoTrade, Outcome.TheVariants.NonOpening, Outcome.TheVariants.Delayed}
-use Rattle.trades.specs.TradesOf.{left_of, trades_of}
-use Rattle.auction.specs.Outcome.{Held, delays, outcome, prevented, priced, takes_place, unheld}
+use Rattle.auction.specs.declared.{Outcome.TheVariants.Traded, Outcome.TheVariants.NoTrade, Outcome.TheVariants.NonOpening, Outcome.TheVariants.Delayed}
+use Rattle.auction.specs.declared.Held.{Held}
+use Rattle.auction.specs.Outcome.{delays, outcome, prevented, priced, takes_place, unheld}
 
 -- What an outcome says of the price.
 module _ (held : Held) (threshold reference : ℕ) (book : List Resting) where

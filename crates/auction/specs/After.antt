@@ -1,17 +1,10 @@
 -- After an auction: 01 "Outcomes", what is left of the orders and which rests are deleted.
-use Rattle.std.specs.Prelude.{ℕ, ◌-◌, Bool, true, cond, ◌||◌, ◌≡◌, List, leb}
+use Rattle.std.specs.Prelude.{◌-◌, Bool, true, cond, ◌||◌, List}
 use Rattle.std.proofs.Math.Bool.{false}
-use Rattle.std.proofs.Math.Option.{Option, none, some, none-ne-some, some-injective}
-use Rattle.std.proofs.Math.Path.{refl}
-use Rattle.std.proofs.Common.{sym, ap, subst}
-use borrow.Author.Tests.{eqb-false}
+use Rattle.std.proofs.Math.Option.{Option, none, some}
 use Rattle.std.proofs.Math.Dec.{eqb}
-use Rattle.lists.specs.Tests.{tests, and_both, and_intro}
-use Rattle.terms.specs.Bounds.{min_quantity, max_quantity}
 use Rattle.terms.specs.Orders.{Resting, with_open}
 use Rattle.terms.specs.declared.orders.{Auction.Auction, Auction.TheVariants.Opening, Auction.TheVariants.Closing, Validity.Validity, Validity.TheVariants.AtOpening, Validity.TheVariants.AtClose, Validity.TheVariants.Day, Validity.TheVariants.LaterDay}
-use Rattle.book.specs.Sound.{SoundOrder}
-use Rattle.book.specs.Changed.{Keeps}
 use Rattle.trades.specs.declared.{Trade.Trade}
 use Rattle.trades.specs.Trades.{traded}
 

@@ -1,23 +1,11 @@
 -- What rests at each place after an auction, from what the trades leave there: nothing of an order whose validity ends (01 "Outcomes").
-use Prim.Native.Nat.{ℕ, zero, suc, ◌+◌, ◌-◌, ◌≤◌, ◌<◌}
-use Rattle.std.specs.Prelude.{Bool, ◌||◌, ◌≡◌, List, eqb, length, get_or, set}
-use Rattle.std.proofs.Math.Bool.{true, false, cond}
-use Rattle.std.proofs.Math.Option.{Option, none, some}
-use Rattle.std.proofs.Math.Logic.{⊎_elim}
-use Rattle.std.proofs.Math.Path.{refl, ap}
-use Rattle.std.proofs.Common.{sym, ◌∙◌, add-one, arith, get_or-set_same}
-use Rattle.std.proofs.Math.ListN.{length-set}
-use Rattle.std.proofs.Math.Seq.{get_or-set_other}
+use Prim.Native.Nat.{ℕ, zero, suc}
+use Rattle.std.specs.Prelude.{List, get_or, set}
+use Rattle.std.proofs.Math.Bool.{cond}
 use Rattle.terms.specs.Bounds.{places}
-use Rattle.terms.specs.Orders.{Resting, validity_from}
+use Rattle.terms.specs.Orders.{validity_from}
 use Rattle.terms.specs.declared.orders.{Auction.Auction}
-use Rattle.book.specs.declared.Book.{Book}
-use Rattle.book.specs.Columns.{values_at, order_from, order_at, with_left}
-use Rattle.book.specs.Sound.{same_or_not}
-use Rattle.book.specs.Settling.{rest_from}
-use Rattle.trades.specs.declared.{Trade.Trade}
-use Rattle.trades.specs.Trades.{traded}
-use Rattle.auction.specs.After.{remaining, ends, rest_of}
+use Rattle.auction.specs.After.{ends}
 
 -- what rests of an order of this validity, as the column holds it
 abbrev pub rest_with : Auction → ℕ → ℕ → ℕ

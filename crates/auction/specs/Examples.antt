@@ -1,19 +1,18 @@
 -- Worked examples: the outcomes, the trades of 01 "Session file", and what leaves the book.
-use Rattle.std.specs.Prelude.{ℕ, true, false, ◌≡◌, refl, List, [], ◌∷◌}
-use Rattle.std.proofs.Math.Option.{some, none}
+use Rattle.std.specs.Prelude.{ℕ, true, false, List, [], ◌∷◌}
 use Rattle.lists.specs.Sums.{apart}
-use Rattle.terms.specs.Samples.{order, buy, sell, buy_any}
-use Rattle.terms.specs.Orders.{Resting, at_price}
-use Rattle.terms.specs.declared.orders.{Side.TheVariants.Buy, Validity.TheVariants.AtOpening, Validity.TheVariants.AtClose, Validity.TheVariants.Day, Validity.TheVariants.LaterDay, Auction.TheVariants.Opening, Auction.TheVariants.Closing}
+use Rattle.terms.specs.Samples.{buy, sell}
+use Rattle.terms.specs.Orders.{Resting}
 use Rattle.queue.specs.Rank.{ranked}
 use Rattle.price.specs.Interest.{interest}
 use Rattle.price.specs.Candidates.{most_executable}
 use Rattle.price.specs.Chain.{auction_price}
 use Rattle.trades.specs.declared.{Trade.Trade}
-use Rattle.auction.specs.declared.{Outcome.Outcome, Outcome.TheVariants.Traded, Outcome.TheVariants.NoTrade, Outcome.TheVariants.NonOpening, Outcome.TheVariants.Delayed}
+use Rattle.auction.specs.declared.{Outcome.Outcome}
 use Rattle.trades.specs.Trades.{traded}
 use Rattle.trades.specs.TradesOf.{fills, trades_of}
-use Rattle.auction.specs.Outcome.{Held, unheld, non_opening, outcome, trades}
+use Rattle.auction.specs.declared.Held.{Held}
+use Rattle.auction.specs.Outcome.{non_opening, outcome}
 use Rattle.auction.specs.After.{rest_of}
 
 unfoldable pub computing : Unit {0}

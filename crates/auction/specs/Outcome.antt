@@ -1,10 +1,7 @@
 -- The outcome: 01 "Outcomes", in its order. `book` is the list of orders taking part.
-use Rattle.std.specs.Prelude.{ℕ, ◌*◌, Bool, ◌&&◌, ◌||◌, ◌↔◌, refl, List, [], leb, ltb, length}
+use Rattle.std.specs.Prelude.{ℕ, ◌*◌, Bool, ◌&&◌, ◌||◌, List, [], leb, ltb, length}
 use Rattle.std.proofs.Math.Bool.{true, false, cond}
 use Rattle.std.proofs.Math.Option.{Option, none, some}
-use Rattle.std.proofs.Math.Path.{◌≡◌}
-use Rattle.std.proofs.Common.{ap, arith}
-use Rattle.std.proofs.Math.Dec.{T}
 use Rattle.lists.specs.Sums.{apart}
 use Rattle.terms.specs.Bounds.{hundredths_of_percent}
 use Rattle.terms.specs.Orders.{Resting}
@@ -16,16 +13,13 @@ use Rattle.price.specs.Chain.{auction_price}
 use Rattle.trades.specs.declared.{Trade.Trade}
 use Rattle.auction.specs.declared.{Outcome.Outcome, Outcome.TheVariants.Traded, Outcome.TheVariants.NoTrade, Outcome.TheVariants.NonOpening, Outcome.TheVariants.Delayed}
 use Rattle.trades.specs.TradesOf.{left_of, trades_of}
+use Rattle.auction.specs.declared.Held.{Held}
 
 -- the unlimited quantity taking part on a side
 abbrev pub unlimited : Side → List Resting → ℕ
 unlimited s book = left_of s (λ o. is_unlimited o.limit) book
 
--- what may hold an auction back: unlimited orders that stay unfilled may prevent it, a price that reaches the threshold may delay it
-pub record Held : Type 0 where
-  pub preventable : Bool
-  pub delayable : Bool
-
+-- of what may hold an auction back, nothing
 abbrev pub unheld : Held
 unheld = record { preventable = false; delayable = false }
 

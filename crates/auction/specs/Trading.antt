@@ -1,18 +1,15 @@
 -- An auction from the columns of a book and the ranks of its queues: its outcome, its trades, and what rests at each place.
-use Rattle.std.specs.Prelude.{ℕ, ◌+◌, ◌-◌, ◌≤◌, ◌≡◌, List, leb, length, take, drop}
-use Rattle.std.proofs.Common.{arith}
-use Rattle.lists.specs.Ranking.{rank, Ranked}
-use Rattle.lists.specs.Ascending.{numbers-ranked}
+use Rattle.std.specs.Prelude.{ℕ, List, leb}
+use Rattle.lists.specs.Ranking.{rank}
 use Rattle.terms.specs.Bounds.{places}
 use Rattle.terms.specs.declared.orders.{Side.Side, Side.TheVariants.Buy, Side.TheVariants.Sell, Auction.Auction}
 use Rattle.book.specs.declared.Book.{Book}
 use Rattle.queue.specs.RankNumbers.{ranks_from, along}
-use Rattle.queue.proofs.Placing.{ranks-length}
 use Rattle.fills.specs.Shares.{shares_of, lessened}
 use Rattle.price.specs.Search.{offered, searched_in}
 use Rattle.trades.specs.declared.{Trade.Trade}
 use Rattle.auction.specs.declared.{Outcome.Outcome}
-use Rattle.auction.specs.Outcome.{Held}
+use Rattle.auction.specs.declared.Held.{Held}
 use Rattle.auction.specs.Decided.{outcome_from}
 use Rattle.auction.specs.Ended.{ended}
 use Rattle.trades.specs.OverShares.{paired_shares}

@@ -41,9 +41,7 @@ fn rest_with(auction: Auction, validity: u8, left: u32) -> u32
 pub fn end_rests(lefts: &mut [u32; Place::COUNT], auction: Auction, validities: &[u8; Place::COUNT])
     ensures { lefts.new ≡ ended auction validities.now lefts.old }
 {
-    let mut place: usize = 0;
-    while place < Place::COUNT {
+    for place in 0..Place::COUNT {
         lefts[place] = rest_with(auction, validities[place], lefts[place]);
-        place += 1;
     }
 }

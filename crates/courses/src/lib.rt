@@ -4,13 +4,14 @@
 ghost use Rattle.std.specs.Prelude.{◌≡◌, ◌≤◌, length};
 ghost use Rattle.terms.specs.Bounds.{places};
 ghost use Rattle.auction.specs.Outcome.{price_answered, quantity_answered};
-ghost use Rattle.courses.specs.Held.{preventable as held_preventable, delayable as held_delayable};
+ghost use Rattle.courses.specs.Held.{preventable, delayable};
 ghost use Rattle.courses.specs.Answer.{no_answer, answer_with};
 ghost use Rattle.courses.specs.Course.{course_of, turned_down, answer_by, result_by, delayed_by, PricedBy, reference_by, Priced, standing_by, Planned};
 
-use auction::Outcome;
+use auction::{Held, Outcome};
+use book::Book;
 use controls::{Phase, phase_after};
-use terms::{Auction, AuctionMade, Place, Price};
+use terms::{Auction, AuctionMade, Price};
 
 // The four numbers of an auction and of the theoretical answer.
 #[derive(Clone, Copy)]
@@ -88,23 +89,20 @@ pub fn answer_with(outcome: Outcome, count: u32) -> AuctionAnswer
     }
 }
 
-// Unlimited orders that stay unfilled prevent an opening; they don't prevent a closing.
-pub fn preventable(auction: Auction) -> bool
-    ensures { result ≡ held_preventable auction }
+// Unlimited orders that stay unfilled prevent an opening, and a price that reaches the threshold delays it while no delay has been given yet; a
+// closing is neither prevented nor delayed.
+pub fn held(auction: Auction, delayed: bool) -> Held
+    ensures { (result.preventable ≡ preventable auction) × (result.delayable ≡ delayable auction delayed) }
 {
     match auction {
-        Auction::Opening => true,
-        Auction::Closing => false,
-    }
-}
-
-// A price that reaches the threshold delays an opening while no delay has been given yet; a closing is never delayed.
-pub fn delayable(auction: Auction, delayed: bool) -> bool
-    ensures { result ≡ held_delayable auction delayed }
-{
-    match auction {
-        Auction::Opening => !delayed,
-        Auction::Closing => false,
+        Auction::Opening => Held {
+            preventable: true,
+            delayable: !delayed,
+        },
+        Auction::Closing => Held {
+            preventable: false,
+            delayable: false,
+        },
     }
 }
 
@@ -112,10 +110,8 @@ pub fn price_of(outcome: Outcome) -> u32
     ensures { result ≡ price_answered outcome }
 {
     match outcome {
-        Outcome::Traded { price, quantity } => price,
-        Outcome::NoTrade => 0,
-        Outcome::NonOpening => 0,
-        Outcome::Delayed { price, quantity } => price,
+        Outcome::Traded { price, .. } | Outcome::Delayed { price, .. } => price,
+        Outcome::NoTrade | Outcome::NonOpening => 0,
     }
 }
 
@@ -123,10 +119,8 @@ pub fn quantity_of(outcome: Outcome) -> u64
     ensures { result ≡ quantity_answered outcome }
 {
     match outcome {
-        Outcome::Traded { price, quantity } => quantity,
-        Outcome::NoTrade => 0,
-        Outcome::NonOpening => 0,
-        Outcome::Delayed { price, quantity } => quantity,
+        Outcome::Traded { quantity, .. } | Outcome::Delayed { quantity, .. } => quantity,
+        Outcome::NoTrade | Outcome::NonOpening => 0,
     }
 }
 
@@ -134,10 +128,8 @@ fn course_of(auction: Auction, outcome: Outcome) -> Course
     ensures { result ≡ course_of auction outcome }
 {
     match outcome {
-        Outcome::Traded { price, quantity } => Course::TakesPlace(auction, outcome),
-        Outcome::NoTrade => Course::TakesPlace(auction, outcome),
-        Outcome::NonOpening => Course::HeldBack(outcome),
-        Outcome::Delayed { price, quantity } => Course::HeldBack(outcome),
+        Outcome::Traded { .. } | Outcome::NoTrade => Course::TakesPlace(auction, outcome),
+        Outcome::NonOpening | Outcome::Delayed { .. } => Course::HeldBack(outcome),
     }
 }
 
@@ -156,8 +148,7 @@ pub fn answer_of(course: Course) -> u8
 {
     match course {
         Course::Refused(answer) => answer,
-        Course::HeldBack(outcome) => 0,
-        Course::TakesPlace(auction, outcome) => 0,
+        Course::HeldBack(_) | Course::TakesPlace(..) => 0,
     }
 }
 
@@ -165,9 +156,8 @@ pub fn result_of(course: Course, count: u32) -> AuctionAnswer
     ensures { result ≡ result_by course count }
 {
     match course {
-        Course::Refused(answer) => no_answer(),
-        Course::HeldBack(outcome) => answer_with(outcome, count),
-        Course::TakesPlace(auction, outcome) => answer_with(outcome, count),
+        Course::Refused(_) => no_answer(),
+        Course::HeldBack(outcome) | Course::TakesPlace(_, outcome) => answer_with(outcome, count),
     }
 }
 
@@ -175,12 +165,7 @@ pub fn result_of(course: Course, count: u32) -> AuctionAnswer
 fn delayed_by(outcome: Outcome, delayed: bool) -> bool
     ensures { result ≡ delayed_by outcome delayed }
 {
-    match outcome {
-        Outcome::Traded { price, quantity } => delayed,
-        Outcome::NoTrade => delayed,
-        Outcome::NonOpening => delayed,
-        Outcome::Delayed { price, quantity } => true,
-    }
+    delayed | matches!(outcome, Outcome::Delayed { .. })
 }
 
 // With outcome 1 the price becomes the reference price.
@@ -189,31 +174,25 @@ fn reference_by(outcome: Outcome, reference: Price) -> Price
     ensures { result ≡ reference_by outcome reference }
 {
     match outcome {
-        Outcome::Traded { price, quantity } => Price::known(price),
-        Outcome::NoTrade => reference,
-        Outcome::NonOpening => reference,
-        Outcome::Delayed { price, quantity } => reference,
+        Outcome::Traded { price, .. } => Price::known(price),
+        Outcome::NoTrade | Outcome::NonOpening | Outcome::Delayed { .. } => reference,
     }
 }
 
 // Whether a call is refused, and else which outcome its auction has at this moment. The ranks of both sides go to the list, those of the
 // buys first.
-pub fn planned<'a>(
+pub fn planned(
     which: u8,
     phase: Phase,
     size: usize,
     delayed: bool,
     threshold: u16,
     reference: u32,
-    sides: &'a [u8; Place::COUNT],
-    validities: &'a [u8; Place::COUNT],
-    limits: &'a [u32; Place::COUNT],
-    numbers: &'a [u32; Place::COUNT],
-    lefts: &'a [u32; Place::COUNT],
+    book: &Book,
     ranks: &mut [u64],
 ) -> Plan
     requires { places ≤ length ranks.old }
-    ensures { Planned which phase size delayed threshold reference sides.now validities.now limits.now numbers.now lefts.now result ranks.new }
+    ensures { Planned which phase size delayed threshold reference book.now.side book.now.validity book.now.limit book.now.number book.now.left result ranks.new }
 {
     let AuctionMade::Good(auction) = Auction::new(which) else {
         return turned_down(1);
@@ -225,19 +204,13 @@ pub fn planned<'a>(
     let view = auction::outlook(
         ranks,
         auction,
-        preventable(auction),
-        delayable(auction, delayed),
+        held(auction, delayed),
         threshold,
         reference,
-        sides,
-        validities,
-        limits,
-        numbers,
-        lefts,
+        book,
     );
-    let outcome = view.outcome;
     Plan {
-        course: course_of(auction, outcome),
+        course: course_of(auction, view.outcome),
         bids: view.bids,
         asks: view.asks,
     }
@@ -249,7 +222,7 @@ pub fn standing_after(course: Course, phase: Phase, delayed: bool, reference: Pr
     ensures { result ≡ standing_by course (record { phase = phase; delayed = delayed; reference = reference }) }
 {
     match course {
-        Course::Refused(answer) => Standing {
+        Course::Refused(_) => Standing {
             phase,
             delayed,
             reference,

@@ -26,7 +26,8 @@ use Rattle.trades.proofs.Trades.{volume-le-executable}
 use Rattle.trades.specs.Pairing.{amount}
 use Rattle.trades.specs.TradesOf.{fills, trades_of}
 use Rattle.trades.proofs.TradesOf.{trades-none, fills-amount, trades-volume, trades-possible, trades-in-order, trades-positive, traded-side, trades-count}
-use Rattle.auction.specs.Outcome.{Held, outcome, trades, price_answered, quantity_answered, count_answered, takes_place}
+use Rattle.auction.specs.declared.Held.{Held}
+use Rattle.auction.specs.Outcome.{outcome, trades, price_answered, quantity_answered, count_answered, takes_place}
 use Rattle.auction.proofs.OutcomeLaws.{outcome-traded, outcome-no-trade, outcome-prevented, unheld-takes-place}
 use Rattle.auction.specs.After.{remaining}
 use Rattle.auction.proofs.Left.{nothing_left}

@@ -40,11 +40,7 @@ pub fn auction(desk: Desk, which: u8, list: &mut [u32]) -> Auctioned
         session.delayed,
         parameters.threshold.number(),
         session.reference.number(),
-        &session.book.side,
-        &session.book.validity,
-        &session.book.limit,
-        &session.book.number,
-        &session.book.left,
+        &session.book,
         &mut ranks,
     );
     let course = plan.course;
@@ -59,8 +55,7 @@ pub fn auction(desk: Desk, which: u8, list: &mut [u32]) -> Auctioned
             price_of(outcome),
             quantity_of(outcome),
             &spots,
-            &session.book.validity,
-            &session.book.left,
+            &session.book,
             &both[..bids],
             &both[bids..behind],
             list,

@@ -10,7 +10,7 @@ ghost use Rattle.session.specs.Sound.{Sound};
 ghost use Rattle.session.specs.State.{part};
 
 use auction::Outcome;
-use courses::{AuctionAnswer, answer_with, delayable, no_answer, preventable};
+use courses::{AuctionAnswer, answer_with, held, no_answer};
 use session::Session;
 use terms::{Auction, AuctionMade, Place};
 
@@ -30,35 +30,22 @@ fn foreseen_now(session: Session, auction: Auction) -> AuctionAnswer
     let view = auction::outlook(
         &mut ranks,
         auction,
-        preventable(auction),
-        delayable(auction, session.delayed),
+        held(auction, session.delayed),
         parameters.threshold.number(),
         session.reference.number(),
-        &session.book.side,
-        &session.book.validity,
-        &session.book.limit,
-        &session.book.number,
-        &session.book.left,
+        &session.book,
     );
     let outcome = view.outcome;
     let bids = view.bids;
     let behind = bids + view.asks;
     let both = &ranks[..];
-    match outcome {
-        Outcome::Traded { price, quantity } => {
-            let count = auction::count_trades(
-                quantity,
-                &session.book.number,
-                &session.book.left,
-                &both[..bids],
-                &both[bids..behind],
-            );
-            answer_with(outcome, count)
+    let count = match outcome {
+        Outcome::Traded { quantity, .. } => {
+            auction::count_trades(quantity, &session.book, &both[..bids], &both[bids..behind])
         }
-        Outcome::NoTrade => answer_with(outcome, 0),
-        Outcome::NonOpening => answer_with(outcome, 0),
-        Outcome::Delayed { price, quantity } => answer_with(outcome, 0),
-    }
+        Outcome::NoTrade | Outcome::NonOpening | Outcome::Delayed { .. } => 0,
+    };
+    answer_with(outcome, count)
 }
 
 // Theoretical answer: refusals 1, 2, 4.

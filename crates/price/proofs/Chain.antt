@@ -1,6 +1,6 @@
 -- The chain: 01 "The price", steps 1 to 4, and why it leaves one price (B6).
 use Rattle.std.specs.Prelude.{ℕ, ◌≤◌, ◌<◌, Bool, true, false, cond, ◌⊎◌, ◌↔◌, List, [], ◌∷◌, T, leb, ltb}
-use Rattle.std.proofs.Math.Option.{Option, none, some}
+use Rattle.std.proofs.Math.Option.{none, some}
 use Rattle.std.proofs.Math.Logic.{⊎_elim, ⊎_map}
 use Rattle.std.proofs.Math.Path.{◌≡◌, refl}
 use mathlib.Core.List.Memᴰ
@@ -10,7 +10,7 @@ use Rattle.lists.specs.Sums.{◌∈◌, apart, apart-le, le-apart}
 use Rattle.lists.specs.Choice.{all, leaders, smallest, largest, leaders-elim, leaders-found, smallest-elim, smallest-intro, largest-elim, largest-intro, smallest-some, largest-some, highest-at, le-highest}
 use Rattle.terms.specs.Orders.{Resting}
 use Rattle.terms.specs.declared.orders.{Side.TheVariants.Buy, Side.TheVariants.Sell}
-use Rattle.price.specs.Interest.{interest, demand, supply, executable, difference}
+use Rattle.price.specs.Interest.{interest, executable, difference}
 use Rattle.price.proofs.Interest.{interest-mono}
 use Rattle.price.specs.Candidates.{candidates, limits, most_executable}
 use Rattle.price.proofs.Candidates.{candidate-as-good}

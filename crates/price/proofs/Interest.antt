@@ -1,9 +1,9 @@
 -- Interest: 01 "The price", demand, supply and the executable quantity at a price. `book` is the list of orders taking part.
-use Rattle.std.specs.Prelude.{ℕ, ◌≤◌, min, Bool, not, ◌&&◌, ◌⊎◌, List, T}
+use Rattle.std.specs.Prelude.{ℕ, ◌≤◌, not, ◌⊎◌, List, T}
 use Rattle.std.proofs.Common.{inl, inr, arith}
 use Rattle.std.proofs.Math.Logic.{⊎_map}
 use Rattle.lists.specs.Tests.{tests, and_mono}
-use Rattle.lists.specs.Sums.{apart, counted, counted-mono, sum, sum_mono}
+use Rattle.lists.specs.Sums.{counted-mono, sum_mono}
 use Rattle.terms.specs.Orders.{Resting}
 use Rattle.terms.specs.declared.orders.{Side.Side, Side.TheVariants.Buy, Side.TheVariants.Sell, Limit.Limit, Limit.TheVariants.Unlimited, Limit.TheVariants.At}
 use Rattle.queue.specs.Sides.{no_worse, allows}

@@ -19,7 +19,7 @@ use Rattle.price.proofs.Interest.{interest-mono}
 use Rattle.price.specs.Candidates.{candidates, limits, most_executable}
 use Rattle.price.specs.Chain.{kept, settled, preferred, demand_exceeds, supply_exceeds, auction_price}
 use Rattle.price.proofs.Chain.{price-some}
-use Rattle.price.specs.Search.{first_weighed, joined, beats, ties, weighed, weigh_all, found_in, searched_in}
+use Rattle.price.specs.Search.{first_weighed, joined, weighed, weigh_all, found_in, searched_in}
 use Rattle.price.specs.declared.weigh.{Weighed.Weighed}
 use Rattle.price.specs.declared.search.{Found.Found}
 use Rattle.price.specs.SearchFinds.{stepped}

@@ -10,11 +10,18 @@ use native.Mathlib.Omega.{arith}
 use Rattle.std.proofs.Math.Dec.{ltb}
 use Rattle.std.proofs.Math.ListN.{get_or}
 use borrow.Author.Tests.{ltb-true, ltb-false}
+use Rattle.std.specs.Coded.{×_prop, Π_prop, Unit-prop}
+use lib.Dec.{T_prop}
 use Rattle.lists.specs.Tests.{tests, decided}
 use Rattle.lists.specs.Sums.{◌∈◌}
 use Rattle.lists.specs.Ranking.{Ranked}
 use Rattle.queue.specs.RankNumbers.{place_of_rank}
 use Rattle.price.specs.Search.{sum_below}
+
+-- a list is in rank order in one way
+pub Ranked-prop : (xs : List ℕ) → IsProp (Ranked leb xs)
+Ranked-prop [] = Unit-prop
+Ranked-prop (x ∷ xs) = ×_prop (Π_prop (λ y. Π_prop (λ m. T_prop (leb x y)))) (Ranked-prop xs)
 
 -- what the first k orders have open
 unfoldable pub first_sum : List ℕ → List ℕ → ℕ → ℕ

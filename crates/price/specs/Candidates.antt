@@ -1,16 +1,11 @@
 -- Candidates: 01 "The price", and why they suffice (B5).
-use Rattle.std.specs.Prelude.{ℕ, ◌+◌, ◌≤◌, refl, List, [], ◌∷◌, T}
-use Rattle.std.proofs.Common.{⊎_elim, T_not, arith}
-use mathlib.Core.List.Memᴰ
-use Rattle.lists.specs.Tests.{decided, and_both, and_intro}
-use Rattle.lists.specs.Sums.{◌∈◌, counted, counted-mono}
-use Rattle.lists.specs.Choice.{highest, le-highest}
+use Rattle.std.specs.Prelude.{ℕ, ◌≤◌, List, [], ◌∷◌, T}
+use Rattle.lists.specs.Sums.{◌∈◌}
+use Rattle.lists.specs.Choice.{highest}
 use Rattle.terms.specs.Orders.{Resting}
-use Rattle.terms.specs.declared.orders.{Side.Side, Side.TheVariants.Buy, Side.TheVariants.Sell, Limit.Limit, Limit.TheVariants.Unlimited, Limit.TheVariants.At}
+use Rattle.terms.specs.declared.orders.{Side.Side, Limit.Limit, Limit.TheVariants.Unlimited, Limit.TheVariants.At}
 use Rattle.queue.specs.Sides.{allows}
-use Rattle.queue.proofs.Sides.{no_worse-refl}
-use Rattle.queue.specs.Rank.{on_side}
-use Rattle.price.specs.Interest.{accepts, interest, executable}
+use Rattle.price.specs.Interest.{executable}
 
 -- the limits of the orders taking part ..
 abbrev pub add_limit : Limit → List ℕ → List ℕ

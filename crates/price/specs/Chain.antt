@@ -1,17 +1,11 @@
 -- The chain: 01 "The price", steps 1 to 4, and why it leaves one price (B6).
-use Rattle.std.specs.Prelude.{ℕ, ◌≤◌, ◌<◌, Bool, true, false, cond, ◌⊎◌, ◌↔◌, List, [], ◌∷◌, T, leb, ltb}
+use Rattle.std.specs.Prelude.{ℕ, Bool, true, false, cond, List, [], ◌∷◌, leb, ltb}
 use Rattle.std.proofs.Math.Option.{Option, none, some}
-use Rattle.std.proofs.Math.Logic.{⊎_elim, ⊎_map}
-use Rattle.std.proofs.Math.Path.{◌≡◌, refl}
-use mathlib.Core.List.Memᴰ
-use Rattle.std.proofs.Common.{ltb→lt, arith}
-use Rattle.lists.specs.Tests.{tests, decided}
-use Rattle.lists.specs.Sums.{◌∈◌, apart, apart-le, le-apart}
-use Rattle.lists.specs.Choice.{all, leaders, smallest, largest, leaders-elim, leaders-found, smallest-elim, smallest-intro, largest-elim, largest-intro, smallest-some, largest-some, highest-at, le-highest}
+use Rattle.lists.specs.Sums.{apart}
+use Rattle.lists.specs.Choice.{all, leaders, smallest, largest}
 use Rattle.terms.specs.Orders.{Resting}
-use Rattle.terms.specs.declared.orders.{Side.TheVariants.Buy, Side.TheVariants.Sell}
-use Rattle.price.specs.Interest.{interest, demand, supply, executable, difference}
-use Rattle.price.specs.Candidates.{candidates, limits, most_executable}
+use Rattle.price.specs.Interest.{demand, supply, executable, difference}
+use Rattle.price.specs.Candidates.{candidates}
 
 -- 1. Keep the candidates with the highest executable quantity.
 -- 2. Of these keep the ones with the smallest difference between demand and supply.

@@ -1,15 +1,10 @@
 -- Interest: 01 "The price", demand, supply and the executable quantity at a price. `book` is the list of orders taking part.
-use Rattle.std.specs.Prelude.{ℕ, ◌≤◌, min, Bool, not, ◌&&◌, ◌⊎◌, List, T}
-use Rattle.std.proofs.Common.{inl, inr, arith}
-use Rattle.std.proofs.Math.Logic.{⊎_map}
-use Rattle.lists.specs.Tests.{tests, and_mono}
-use Rattle.lists.specs.Sums.{apart, counted, counted-mono, sum, sum_mono}
+use Rattle.std.specs.Prelude.{ℕ, min, Bool, ◌&&◌, List}
+use Rattle.lists.specs.Sums.{apart, counted, sum}
 use Rattle.terms.specs.Orders.{Resting}
-use Rattle.terms.specs.declared.orders.{Side.Side, Side.TheVariants.Buy, Side.TheVariants.Sell, Limit.Limit, Limit.TheVariants.Unlimited, Limit.TheVariants.At}
-use Rattle.queue.specs.Sides.{no_worse, allows}
-use Rattle.queue.proofs.Sides.{no_worse-trans, no_worse-total}
-use Rattle.queue.specs.Rank.{better_limit, on_side, ahead}
-use Rattle.queue.proofs.Rank.{ahead-limit}
+use Rattle.terms.specs.declared.orders.{Side.Side, Side.TheVariants.Buy, Side.TheVariants.Sell}
+use Rattle.queue.specs.Sides.{allows}
+use Rattle.queue.specs.Rank.{on_side}
 
 -- the order is of side s and can trade at p
 abbrev pub accepts : Side → ℕ → Resting → Bool

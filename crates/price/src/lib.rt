@@ -5,6 +5,5 @@ mod front;
 mod search;
 mod weigh;
 
-pub use front::offer;
+pub use front::RankedQueue;
 pub use search::{Found, searched};
-pub use weigh::apart;

@@ -1,16 +1,14 @@
 // The search: the chain over all candidates. Every candidate is weighed against the best so far; the fronts that offer at it are
 // those of the candidate before, made longer or shorter.
-ghost use Rattle.std.specs.Prelude.{◌≡◌, ◌≤◌, leb, length};
-ghost use Rattle.lists.specs.Ranking.{Ranked};
+ghost use Rattle.std.specs.Prelude.{◌≡◌};
 ghost use Rattle.queue.specs.RankNumbers.{along};
 ghost use Rattle.price.specs.Below.{IsFront};
 ghost use Rattle.price.specs.Search.{offered, weigh_all, found_in, searched_in};
-ghost use Rattle.terms.specs.declared.orders.{Side.TheVariants.Buy, Side.TheVariants.Sell};
-ghost use Rattle.terms.specs.Bounds.{places};
 
-use crate::front::{Front, front_at};
-use crate::weigh::{Weighed, apart, executable, first, weigh};
-use terms::{Limit, Place, Side};
+use crate::front::{Front, RankedQueue};
+use crate::weigh::{Weighed, first, weigh};
+use queue::place_of_rank;
+use terms::Limit;
 
 // The highest executable quantity, and the price that the chain leaves.
 #[derive(Clone, Copy)]
@@ -24,26 +22,21 @@ pub struct Found {
 fn weigh_limits<'a>(
     start: Weighed,
     reference: u32,
-    ranks: &'a [u64],
-    limits: &'a [u32; Place::COUNT],
-    lefts: &'a [u32; Place::COUNT],
-    buys: &'a [u64],
-    sells: &'a [u64],
+    queue: &RankedQueue<'a>,
+    buys: &RankedQueue<'a>,
+    sells: &RankedQueue<'a>,
 ) -> Weighed
-    requires { Ranked leb buys.now × (length buys.now ≤ places) × Ranked leb sells.now × (length sells.now ≤ places) }
-    ensures { result ≡ weigh_all reference (offered Buy lefts.now buys.now) (offered Sell lefts.now sells.now) (along limits.now ranks.now) start }
+    ensures { result ≡ weigh_all reference (offered buys.now.side buys.now.book.now.left buys.now.ranks.now) (offered sells.now.side sells.now.book.now.left sells.now.ranks.now) (along queue.now.book.now.limit queue.now.ranks.now) start }
 {
     let mut w = start;
     let mut last = Limit::UNLIMITED;
-    let mut demand = Front { count: 0, total: 0 };
-    let mut supply = Front { count: 0, total: 0 };
-    let mut i: usize = 0;
-    while i < ranks.len() {
-        let limit = limits[queue::place_of_rank(ranks[i])];
-        i += 1;
+    let mut demand = Front::NOBODY;
+    let mut supply = Front::NOBODY;
+    for rank in queue.ranks {
+        let limit = queue.book.limit[place_of_rank(*rank)];
         if (limit != Limit::UNLIMITED) & (limit != last) {
-            demand = front_at(Side::Buy, limit, demand, buys, lefts);
-            supply = front_at(Side::Sell, limit, supply, sells, lefts);
+            demand = buys.front_at(limit, demand);
+            supply = sells.front_at(limit, supply);
             w = weigh(w, reference, limit, demand.total, supply.total);
             last = limit;
         }
@@ -57,18 +50,17 @@ fn chosen<'a>(
     w: Weighed,
     demand: Front,
     supply: Front,
-    lefts: &'a [u32; Place::COUNT],
-    buys: &'a [u64],
-    sells: &'a [u64],
+    buys: &RankedQueue<'a>,
+    sells: &RankedQueue<'a>,
 ) -> Found
-    requires ranked { Ranked leb buys.now × (length buys.now ≤ places) × IsFront lefts.now buys.now demand.count demand.total }
-    requires ranked_2 { Ranked leb sells.now × (length sells.now ≤ places) × IsFront lefts.now sells.now supply.count supply.total }
-    ensures { result ≡ found_in (offered Buy lefts.now buys.now) (offered Sell lefts.now sells.now) w }
+    requires demand { IsFront buys.now.book.now.left buys.now.ranks.now demand.count demand.total }
+    requires supply { IsFront sells.now.book.now.left sells.now.ranks.now supply.count supply.total }
+    ensures { result ≡ found_in (offered buys.now.side buys.now.book.now.left buys.now.ranks.now) (offered sells.now.side sells.now.book.now.left sells.now.ranks.now) w }
 {
-    let high_demand = front_at(Side::Buy, w.high, demand, buys, lefts);
-    let high_supply = front_at(Side::Sell, w.high, supply, sells, lefts);
-    let low_demand = front_at(Side::Buy, w.low, high_demand, buys, lefts);
-    let low_supply = front_at(Side::Sell, w.low, high_supply, sells, lefts);
+    let high_demand = buys.front_at(w.high, demand);
+    let high_supply = sells.front_at(w.high, supply);
+    let low_demand = buys.front_at(w.low, high_demand);
+    let low_supply = sells.front_at(w.low, high_supply);
     let more_demand = high_supply.total < high_demand.total;
     let more_supply = low_demand.total < low_supply.total;
     let price = if more_demand {
@@ -84,23 +76,15 @@ fn chosen<'a>(
     }
 }
 
-// The candidates are the reference price and the limits of both queues, given by their ranks.
-pub fn searched<'a>(
-    reference: u32,
-    limits: &'a [u32; Place::COUNT],
-    lefts: &'a [u32; Place::COUNT],
-    buys: &'a [u64],
-    sells: &'a [u64],
-) -> Found
-    requires { Ranked leb buys.now × (length buys.now ≤ places) × Ranked leb sells.now × (length sells.now ≤ places) }
-    ensures { result ≡ searched_in reference (offered Buy lefts.now buys.now) (offered Sell lefts.now sells.now) (along limits.now buys.now) (along limits.now sells.now) }
+// The candidates are the reference price and the limits of both queues.
+pub fn searched<'a>(reference: u32, buys: &RankedQueue<'a>, sells: &RankedQueue<'a>) -> Found
+    ensures { result ≡ searched_in reference (offered buys.now.side buys.now.book.now.left buys.now.ranks.now) (offered sells.now.side sells.now.book.now.left sells.now.ranks.now) (along buys.now.book.now.limit buys.now.ranks.now) (along sells.now.book.now.limit sells.now.ranks.now) }
 {
-    let nobody = Front { count: 0, total: 0 };
-    let demand = front_at(Side::Buy, reference, nobody, buys, lefts);
-    let supply = front_at(Side::Sell, reference, nobody, sells, lefts);
-    let most = executable(demand.total, supply.total);
-    let alone = first(reference, most, apart(demand.total, supply.total));
-    let bid = weigh_limits(alone, reference, buys, limits, lefts, buys, sells);
-    let all = weigh_limits(bid, reference, sells, limits, lefts, buys, sells);
-    chosen(all, demand, supply, lefts, buys, sells)
+    let demand = buys.front_at(reference, Front::NOBODY);
+    let supply = sells.front_at(reference, Front::NOBODY);
+    let most = demand.total.min(supply.total);
+    let alone = first(reference, most, demand.total.abs_diff(supply.total));
+    let bid = weigh_limits(alone, reference, buys, buys, sells);
+    let all = weigh_limits(bid, reference, sells, buys, sells);
+    chosen(all, demand, supply, buys, sells)
 }

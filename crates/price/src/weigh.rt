@@ -1,5 +1,5 @@
 // Weighing: the candidates so far against one more.
-ghost use Rattle.std.specs.Prelude.{◌≡◌, cond, min, max, ltb};
+ghost use Rattle.std.specs.Prelude.{◌≡◌, cond, ltb};
 ghost use Rattle.lists.specs.Sums.{apart};
 ghost use Rattle.price.specs.Search.{first_weighed, joined, weighed};
 
@@ -14,36 +14,11 @@ pub struct Weighed {
     pub near: u32,
 }
 
-pub fn apart(a: u64, b: u64) -> u64
-    ensures { result ≡ apart a b }
-{
-    if a <= b { b - a } else { a - b }
-}
-
-// Executable is the smaller of demand and supply.
-pub fn executable(demand: u64, supply: u64) -> u64
-    ensures { result ≡ min demand supply }
-{
-    if demand <= supply { demand } else { supply }
-}
-
-fn higher(a: u32, b: u32) -> u32
-    ensures { result ≡ max a b }
-{
-    if a < b { b } else { a }
-}
-
-fn lower(a: u32, b: u32) -> u32
-    ensures { result ≡ min a b }
-{
-    if b < a { b } else { a }
-}
-
 // Of two prices the second, unless the first is nearer to the reference price.
 fn nearer(reference: u32, a: u32, b: u32) -> u32
     ensures { result ≡ cond (ltb (apart reference a) (apart reference b)) a b }
 {
-    if apart(reference as u64, a as u64) < apart(reference as u64, b as u64) {
+    if reference.abs_diff(a) < reference.abs_diff(b) {
         a
     } else {
         b
@@ -70,18 +45,18 @@ fn joined(w: Weighed, reference: u32, price: u32) -> Weighed
     Weighed {
         most: w.most,
         least: w.least,
-        high: higher(w.high, price),
-        low: lower(w.low, price),
+        high: w.high.max(price),
+        low: w.low.min(price),
         near: nearer(reference, price, w.near),
     }
 }
 
-// One more candidate, with demand and supply at it.
+// One more candidate, with demand and supply at it: executable is the smaller of the two.
 pub fn weigh(w: Weighed, reference: u32, price: u32, demand: u64, supply: u64) -> Weighed
     ensures { result ≡ weighed reference price demand supply w }
 {
-    let most = executable(demand, supply);
-    let least = apart(demand, supply);
+    let most = demand.min(supply);
+    let least = demand.abs_diff(supply);
     if (w.most < most) | ((most == w.most) & (least < w.least)) {
         return first(price, most, least);
     }

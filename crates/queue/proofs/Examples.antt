@@ -1,8 +1,6 @@
 -- Worked examples: who takes part, and rank.
-use Rattle.std.specs.Prelude.{ℕ, ◌≡◌, refl, List, [], ◌∷◌, map}
-use Rattle.terms.specs.Samples.{order, buy, sell, buy_any}
-use Rattle.terms.specs.Orders.{Resting, at_price}
-use Rattle.terms.specs.declared.orders.{Side.TheVariants.Buy, Side.TheVariants.Sell, Validity.TheVariants.AtOpening, Validity.TheVariants.AtClose, Validity.TheVariants.Day, Validity.TheVariants.LaterDay, Auction.TheVariants.Opening, Auction.TheVariants.Closing}
+use Rattle.std.specs.Prelude.{◌≡◌, refl, [], ◌∷◌}
+use Rattle.terms.specs.declared.orders.{Side.TheVariants.Buy, Side.TheVariants.Sell, Auction.TheVariants.Opening, Auction.TheVariants.Closing}
 use Rattle.queue.specs.Part.{taking_part}
 use Rattle.queue.specs.Rank.{ranked}
 use Rattle.queue.specs.Examples.{four, mixed, numbers_of}

@@ -1,5 +1,5 @@
 -- Ranks as numbers compare as orders do: by limit, then by number.
-use Rattle.std.specs.Prelude.{ℕ, zero, suc, ◌+◌, ◌-◌, ◌*◌, ◌≤◌, ◌<◌, not, ◌&&◌, ◌||◌, ◌≢◌, ◌≡◌, refl, T, leb, ltb}
+use Rattle.std.specs.Prelude.{ℕ, zero, suc, ◌+◌, ◌-◌, ◌*◌, ◌<◌, not, ◌&&◌, ◌||◌, ◌≢◌, ◌≡◌, refl, T, leb, ltb}
 use Rattle.std.proofs.Common.{⊎_elim, sym, ◌∙◌, arith, ne_eqb, lt-ltb, le-ltb, le-leb}
 use Rattle.std.proofs.lemmas.Bool.{lt-leb}
 use Rattle.std.proofs.Math.Dec.{not_T}

@@ -1,9 +1,9 @@
 -- Who takes part: 01 "Who takes part, and at what rank", first two sentences.
-use Rattle.std.specs.Prelude.{◌≤◌, Bool, true, false, List, T, length}
+use Rattle.std.specs.Prelude.{◌≤◌, List, T, length}
 use Rattle.lists.specs.Sums.{◌∈◌}
-use Rattle.lists.specs.Choice.{keep, keep-elim, keep-intro, keep-length}
+use Rattle.lists.specs.Choice.{keep-elim, keep-intro, keep-length}
 use Rattle.terms.specs.Orders.{Resting}
-use Rattle.terms.specs.declared.orders.{Auction.Auction, Auction.TheVariants.Opening, Auction.TheVariants.Closing, Validity.Validity, Validity.TheVariants.AtOpening, Validity.TheVariants.AtClose, Validity.TheVariants.Day, Validity.TheVariants.LaterDay}
+use Rattle.terms.specs.declared.orders.{Auction.Auction}
 use Rattle.queue.specs.Distinct.{Distinct}
 use Rattle.queue.proofs.Distinct.{distinct-keep}
 use Rattle.queue.specs.Part.{takes_part, taking_part}

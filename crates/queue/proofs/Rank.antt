@@ -1,14 +1,13 @@
 -- Rank: 01 "Who takes part, and at what rank", last sentence (004 clause 6).
-use Rattle.std.specs.Prelude.{ℕ, Bool, true, false, not, ◌&&◌, ◌||◌, ◌⊎◌, ◌≢◌, ◌≡◌, List, [], ◌∷◌, T, ltb}
+use Rattle.std.specs.Prelude.{ℕ, not, ◌⊎◌, ◌≢◌, ◌≡◌, List, [], ◌∷◌, T, ltb}
 use Rattle.std.proofs.Common.{inl, inr, ⊎_elim, sym, ◌∙◌, T_not}
 use Rattle.std.proofs.Math.Dec.{not_T}
 use Rattle.lists.specs.Tests.{tests, decided, and_both, and_intro, or_cases, or_left, or_right}
 use Rattle.lists.specs.Sums.{◌∈◌, sum, counted}
 use Rattle.lists.specs.Choice.{keep, keep-elim, keep-intro, keep-sum}
-use Rattle.lists.specs.Ranking.{rank, Ranked, Comparable, rank-sum, rank-elim, rank-intro, rank-ranked, ranked-unique}
+use Rattle.lists.specs.Ranking.{Ranked, Comparable, rank-sum, rank-elim, rank-intro, rank-ranked, ranked-unique}
 use Rattle.terms.specs.Orders.{Resting}
 use Rattle.terms.specs.declared.orders.{Side.Side, Side.TheVariants.Buy, Side.TheVariants.Sell, Limit.Limit, Limit.TheVariants.Unlimited, Limit.TheVariants.At}
-use Rattle.terms.specs.Sides.{same_side}
 use Rattle.queue.specs.Distinct.{Distinct}
 use Rattle.queue.proofs.Distinct.{distinct-keep}
 use Rattle.queue.specs.Rank.{ahead, better_limit, better_price, earlier, on_side, ranked}

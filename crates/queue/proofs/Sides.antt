@@ -1,7 +1,7 @@
 -- The two sides, by one order on prices each; every law is said and proved once for both.
-use Rattle.std.specs.Prelude.{ℕ, Bool, true, false, ◌⊎◌, T, leb}
+use Rattle.std.specs.Prelude.{ℕ, ◌⊎◌, T}
 use Rattle.lists.specs.Tests.{tests, leb-total}
-use Rattle.terms.specs.declared.orders.{Side.Side, Side.TheVariants.Buy, Side.TheVariants.Sell, Limit.Limit, Limit.TheVariants.Unlimited, Limit.TheVariants.At}
+use Rattle.terms.specs.declared.orders.{Side.Side, Side.TheVariants.Buy, Side.TheVariants.Sell}
 use Rattle.queue.specs.Sides.{no_worse}
 
 pub no_worse-refl : (s : Side) (p : ℕ) → T (no_worse s p p)

@@ -1,9 +1,6 @@
 -- Numbers are distinct: 01 "A number is never given twice". The one premise of the laws of rank and of demand 3.
-use Rattle.std.specs.Prelude.{ℕ, ◌+◌, ◌≤◌, Bool, true, false, cond, ◌≢◌, ◌≡◌, refl, List, [], ◌∷◌, ◌++◌, T}
-use Rattle.std.proofs.Common.{⊎_elim, sym, ap, ◌∙◌, arith}
-use mathlib.Core.List.Memᴰ
-use Rattle.lists.specs.Sums.{◌∈◌, counted, sum}
-use Rattle.lists.specs.Choice.{keep, keep-elim}
+use Rattle.std.specs.Prelude.{◌≢◌, List, [], ◌∷◌}
+use Rattle.lists.specs.Sums.{◌∈◌}
 use Rattle.terms.specs.Orders.{Resting}
 
 -- no two orders of the list have the same number

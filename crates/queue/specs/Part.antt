@@ -1,10 +1,8 @@
 -- Who takes part: 01 "Who takes part, and at what rank", first two sentences.
-use Rattle.std.specs.Prelude.{◌≤◌, Bool, true, false, List, T, length}
-use Rattle.lists.specs.Sums.{◌∈◌}
-use Rattle.lists.specs.Choice.{keep, keep-elim, keep-intro, keep-length}
+use Rattle.std.specs.Prelude.{Bool, true, false, List}
+use Rattle.lists.specs.Choice.{keep}
 use Rattle.terms.specs.Orders.{Resting}
 use Rattle.terms.specs.declared.orders.{Auction.Auction, Auction.TheVariants.Opening, Auction.TheVariants.Closing, Validity.Validity, Validity.TheVariants.AtOpening, Validity.TheVariants.AtClose, Validity.TheVariants.Day, Validity.TheVariants.LaterDay}
-use Rattle.queue.specs.Distinct.{Distinct}
 
 -- Opening: every resting order except validity 2. Closing: every resting order.
 abbrev pub takes_part : Auction → Validity → Bool

@@ -1,32 +1,15 @@
 -- The ranked queue of a sound book, told by the ranks of its places.
-use Prim.Native.Nat.{ℕ, zero, suc, ◌+◌, ◌≤◌, ◌<◌}
-use Rattle.std.specs.Prelude.{Bool, ◌&&◌, ◌≢◌, ◌≡◌, T, ltb, eqb, get_or}
-use Rattle.std.proofs.Math.Bool.{true, false, cond}
-use Rattle.std.proofs.Common.{true≢false, sym, ◌∙◌}
-use Rattle.std.proofs.Math.Path.{refl, ap}
-use mathlib.Core.List.Memᴰ
-use mathlib.Core.List.{List, [], ◌∷◌, ◌++◌, map, append_assoc, append-nil}
-use native.Mathlib.Omega.{arith}
-use Rattle.std.proofs.Math.Dec.{leb}
-use Rattle.lists.specs.Tests.{tests, and_both}
-use Rattle.lists.specs.Sums.{◌∈◌}
-use Rattle.lists.specs.Choice.{keep}
-use Rattle.lists.specs.Ranking.{rank, rank-elim, Agreeing, rank-map}
-use Rattle.terms.specs.Bounds.{places, min_price, max_price}
-use Rattle.terms.specs.Kinds.{is_price}
-use Rattle.terms.specs.Orders.{Resting, side_number, side_from, validity_from, limit_from, is_limit}
-use Rattle.terms.specs.declared.orders.{Side.Side, Side.TheVariants.Buy, Side.TheVariants.Sell, Auction.Auction}
-use Rattle.terms.specs.Sides.{same_side}
+use Prim.Native.Nat.{ℕ, zero, suc, ◌<◌}
+use Rattle.std.specs.Prelude.{◌≡◌, get_or}
+use Rattle.std.proofs.Math.Bool.{true}
+use mathlib.Core.List.{List, [], ◌++◌}
+use Rattle.terms.specs.Bounds.{places}
+use Rattle.terms.specs.Orders.{Resting}
+use Rattle.terms.specs.declared.orders.{Side.Side}
 use Rattle.book.specs.declared.Book.{Book}
 use Rattle.places.specs.Places.{is_taken}
-use Rattle.book.specs.Columns.{order_at}
-use Rattle.book.specs.declared.Values.{Values}
-use Rattle.book.specs.Resting.{resting_at, resting_to, resting}
-use Rattle.book.specs.Sound.{SoundBook}
-use Rattle.queue.specs.Sides.{allows, is_unlimited}
-use Rattle.queue.specs.Part.{takes_part, taking_part}
-use Rattle.queue.specs.Rank.{ahead, on_side, ranked}
-use Rattle.queue.specs.RankNumbers.{limit_room, number_room, rank_of, rank_bound, place_of_rank, stands_as, ranks_from}
+use Rattle.book.specs.Resting.{resting_at}
+use Rattle.queue.specs.RankNumbers.{rank_of, place_of_rank}
 
 -- the orders that rest at n places from one on, by place
 unfoldable pub resting_from : Book → ℕ → ℕ → List Resting

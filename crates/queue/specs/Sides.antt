@@ -1,6 +1,5 @@
 -- The two sides, by one order on prices each; every law is said and proved once for both.
-use Rattle.std.specs.Prelude.{ℕ, Bool, true, false, ◌⊎◌, T, leb}
-use Rattle.lists.specs.Tests.{tests, leb-total}
+use Rattle.std.specs.Prelude.{ℕ, Bool, true, false, leb}
 use Rattle.terms.specs.declared.orders.{Side.Side, Side.TheVariants.Buy, Side.TheVariants.Sell, Limit.Limit, Limit.TheVariants.Unlimited, Limit.TheVariants.At}
 
 -- `no_worse s p q`: for side s the price p is as good as q, or better (a buyer likes it low, a seller high)

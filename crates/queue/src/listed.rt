@@ -10,9 +10,7 @@ pub fn list_numbers<'a>(list: &mut [u32], ranks: &'a [u64], numbers: &'a [u32; P
     requires { length ranks.now ≤ length list.old }
     ensures { list.new ≡ along numbers.now ranks.now ++ drop (length ranks.now) list.old }
 {
-    let mut i: usize = 0;
-    while i < ranks.len() {
+    for i in 0..ranks.len() {
         list[i] = numbers[place_of_rank(ranks[i])];
-        i += 1;
     }
 }

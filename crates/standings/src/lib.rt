@@ -37,15 +37,7 @@ pub fn ranked(session: Session, side: u8, which: u8, list: &mut [u32]) -> Queued
         return Queued { answer, count: 0 };
     }
     let mut ranks = [0u64; Place::COUNT];
-    let count = queue::ranked(
-        &mut ranks,
-        on,
-        auction,
-        &session.book.side,
-        &session.book.validity,
-        &session.book.limit,
-        &session.book.number,
-    );
+    let count = queue::ranked(&mut ranks, on, auction, &session.book);
     queue::list_numbers(list, &ranks[..count], &session.book.number);
     Queued {
         answer: 0,

@@ -1,9 +1,8 @@
 -- Pairing over shares: the same trades as `paired`, from the columns that the code has.
-use Rattle.std.specs.Prelude.{ℕ, zero, suc, ◌+◌, ◌-◌, min, Bool, true, false, cond, ◌≡◌, refl, List, [], ◌∷◌, ◌++◌, map, eqb, leb, length, get_or}
+use Rattle.std.specs.Prelude.{ℕ, zero, suc, ◌+◌, ◌-◌, min, Bool, true, false, cond, ◌≡◌, refl, List, [], ◌∷◌, ◌++◌, map, leb, length}
 use Rattle.std.proofs.Common.{ap}
-use Rattle.queue.specs.RankNumbers.{along}
 use Rattle.fills.specs.Fill.{Fill}
-use Rattle.trades.specs.declared.{Trade.Trade, pairing.Front.Front}
+use Rattle.trades.specs.declared.{Trade.Trade}
 use Rattle.trades.specs.Pairing.{rest, served, pairs, paired}
 use Rattle.trades.specs.OverShares.{numbers_in, numbers_left, share_pairs, shares_in, shares_left}
 

@@ -1,12 +1,12 @@
 -- Trade lists at a price, and why none moves more than is executable there.
 use Prim.Native.Nat.{ℕ, ◌≤◌}
-use Rattle.std.specs.Prelude.{Bool, ◌&&◌, ◌≡◌, List, T}
+use Rattle.std.specs.Prelude.{Bool, ◌&&◌, List, T}
 use Rattle.std.proofs.Math.Bool.{true, false}
 use Rattle.std.proofs.Math.Nat.{le-min}
 use Rattle.std.proofs.Common.{arith}
 use Rattle.std.proofs.Math.Dec.{eqb, eqb_refl}
 use Rattle.lists.specs.Tests.{and_both, and_intro}
-use Rattle.lists.specs.Sums.{◌∈◌, counted, counted-mono, sum, sum_mono, le-sum, sum-zero, sum-swap}
+use Rattle.lists.specs.Sums.{counted, counted-mono, sum, sum_mono, le-sum, sum-zero, sum-swap}
 use Rattle.terms.specs.Orders.{Resting}
 use Rattle.terms.specs.declared.orders.{Side.Side, Side.TheVariants.Buy, Side.TheVariants.Sell}
 use Rattle.terms.proofs.Sides.{same_side-eq}

@@ -13,13 +13,13 @@ use Rattle.queue.specs.Distinct.{Distinct}
 use Rattle.queue.proofs.Distinct.{distinct-one, distinct-sum}
 use Rattle.queue.specs.Rank.{on_side, ahead, ranked}
 use Rattle.queue.proofs.Rank.{ranked-in-order, ranked-elim, ranked-intro, ranked-sum}
-use Rattle.fills.specs.Fill.{Fill, fill, filled_by, has_number, FrontPart}
+use Rattle.fills.specs.Fill.{Fill, filled_by, has_number, FrontPart}
 use Rattle.fills.proofs.Fill.{ranked-front, front-all, fill-zero, fill-length, fill-le, fill-all, fill-front, fill-passes, fill-in-order, filled-by-number, ranked-distinct}
 use Rattle.price.specs.Interest.{accepts, interest}
 use Rattle.price.proofs.Interest.{allows-ahead}
 use Rattle.trades.specs.declared.Trade.{Trade}
 use Rattle.trades.specs.Trades.{party, traded, volume, TradeList}
-use Rattle.trades.specs.Pairing.{amount, paired}
+use Rattle.trades.specs.Pairing.{amount}
 use Rattle.trades.proofs.PairingLaws.{paired-traded, paired-volume, paired-count, paired-parties, paired-positive}
 use Rattle.trades.specs.TradesOf.{fills, left_of, trades_of}
 

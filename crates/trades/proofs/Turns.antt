@@ -6,7 +6,7 @@ use Rattle.std.proofs.Math.Seq.{drop-cons, append_snoc}
 use Rattle.std.proofs.lemmas.List.{set-get_or}
 use Rattle.lists.specs.Tests.{tests, decided, and_both}
 use Rattle.trades.specs.declared.{Trade.Trade, pairing.Front.Front}
-use Rattle.trades.specs.OverShares.{advanced_to, shares_left, numbers_left, share_pairs}
+use Rattle.trades.specs.OverShares.{advanced_to, share_pairs}
 use Rattle.trades.proofs.OverShares.{no-bought, no-sold}
 use Rattle.trades.specs.Written.{quadruples, trades_written, wrote}
 use Rattle.trades.proofs.Written.{written_next}

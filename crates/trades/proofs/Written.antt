@@ -1,5 +1,5 @@
 -- The lent list: buy number, sell number, quantity, price for each trade, from the front; the remainder keeps its contents.
-use Rattle.std.specs.Prelude.{ℕ, zero, suc, ◌+◌, ◌*◌, ◌≤◌, cond, ◌≡◌, refl, List, [], ◌∷◌, ◌++◌, leb, length, set, take, drop}
+use Rattle.std.specs.Prelude.{ℕ, suc, ◌+◌, ◌*◌, ◌≤◌, ◌≡◌, refl, List, [], ◌∷◌, ◌++◌, length, set, take, drop}
 use Rattle.std.proofs.Common.{ap, ◌∙◌, arith, le-leb, length-append, length-drop, take_at, drop-drop}
 use Rattle.std.proofs.lemmas.List.Edits.{sets-eq}
 use Rattle.std.proofs.Math.Seq.{drop-append-add}

@@ -1,10 +1,8 @@
 -- Pairing over shares: the same trades as `paired`, from the columns that the code has.
-use Rattle.std.specs.Prelude.{ℕ, zero, suc, ◌+◌, ◌-◌, min, Bool, true, false, cond, ◌≡◌, refl, List, [], ◌∷◌, ◌++◌, map, eqb, leb, length, get_or}
-use Rattle.std.proofs.Common.{ap}
+use Rattle.std.specs.Prelude.{ℕ, zero, suc, ◌+◌, ◌-◌, min, cond, List, [], ◌∷◌, map, eqb, leb, length, get_or}
 use Rattle.queue.specs.RankNumbers.{along}
 use Rattle.fills.specs.Fill.{Fill}
 use Rattle.trades.specs.declared.{Trade.Trade, pairing.Front.Front}
-use Rattle.trades.specs.Pairing.{rest, served, pairs, paired}
 
 -- the front after q of it is traded: the next share where nothing is left
 abbrev pub advanced_to : List ℕ → ℕ → Front → Front

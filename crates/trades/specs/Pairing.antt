@@ -1,15 +1,8 @@
 -- Pairing: 01 "Outcomes", "the trades pair the two queues from the front; each is the smaller of the two open quantities at the fronts".
-use Rattle.std.specs.Prelude.{ℕ, zero, suc, ◌+◌, ◌-◌, ◌≤◌, ◌<◌, min, Bool, true, false, not, cond, ◌≡◌, refl, List, [], ◌∷◌, T, leb}
-use Rattle.std.proofs.Common.{⊎_elim, arith, leb→le, le→leb}
-use mathlib.Core.List.Memᴰ
+use Rattle.std.specs.Prelude.{ℕ, zero, suc, ◌+◌, ◌-◌, min, Bool, true, cond, List, [], ◌∷◌, leb}
 use Rattle.std.proofs.Math.ListN.{length}
-use Rattle.std.proofs.Math.Dec.{eqb}
-use Rattle.lists.specs.Tests.{tests, decided}
-use Rattle.lists.specs.Sums.{◌∈◌, counted, counted-le, counted-cut, sum_mono}
-use Rattle.terms.specs.declared.orders.{Side.TheVariants.Buy, Side.TheVariants.Sell}
-use Rattle.fills.specs.Fill.{Fill, filled_by, has_number}
+use Rattle.fills.specs.Fill.{Fill, filled_by}
 use Rattle.trades.specs.declared.Trade.{Trade}
-use Rattle.trades.specs.Trades.{traded_by, traded, volume}
 
 -- what is left of the front fill, and of its queue, when q of it has been traded
 abbrev pub rest : ℕ → Fill → Fill

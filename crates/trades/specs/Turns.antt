@@ -1,13 +1,7 @@
 -- Pairing turn by turn: the trades done so far, and those still to come from where the two fronts are.
-use Rattle.std.specs.Prelude.{ℕ, suc, ◌+◌, ◌-◌, ◌*◌, ◌≤◌, ◌<◌, min, Bool, true, false, cond, ◌&&◌, ◌≡◌, refl, List, [], ◌∷◌, ◌++◌, eqb, leb, ltb, length, get_or, set, drop}
-use Rattle.std.proofs.Common.{⊎_elim, sym, ap, ◌∙◌, append-nil, add-one, arith, ltb-false, le-leb, eqb-true, drop_of_length-le, length-append, get_or-drop}
-use Rattle.std.proofs.lemmas.Bool.{lt-leb, eqb-false}
-use Rattle.std.proofs.Math.Seq.{drop-cons, append_snoc}
-use Rattle.std.proofs.lemmas.List.{set-get_or}
-use Rattle.lists.specs.Tests.{tests, decided, and_both}
-use Rattle.trades.specs.declared.{Trade.Trade, pairing.Front.Front}
-use Rattle.trades.specs.OverShares.{advanced_to, shares_left, numbers_left, share_pairs}
-use Rattle.trades.specs.Written.{quadruples, trades_written, wrote}
+use Rattle.std.specs.Prelude.{ℕ, suc, ◌+◌, ◌≤◌, ◌<◌, ◌≡◌, List, get_or, set, drop}
+use Rattle.trades.specs.declared.{pairing.Front.Front}
+use Rattle.trades.specs.OverShares.{shares_left, numbers_left}
 
 -- the shares from a front on
 abbrev pub shares_from : List ℕ → Front → List ℕ

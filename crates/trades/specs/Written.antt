@@ -1,8 +1,5 @@
 -- The lent list: buy number, sell number, quantity, price for each trade, from the front; the remainder keeps its contents.
-use Rattle.std.specs.Prelude.{ℕ, zero, suc, ◌+◌, ◌*◌, ◌≤◌, cond, ◌≡◌, refl, List, [], ◌∷◌, ◌++◌, leb, length, set, take, drop}
-use Rattle.std.proofs.Common.{ap, ◌∙◌, arith, le-leb, length-append, length-drop, take_at, drop-drop}
-use Rattle.std.proofs.lemmas.List.Edits.{sets-eq}
-use Rattle.std.proofs.Math.Seq.{drop-append-add}
+use Rattle.std.specs.Prelude.{ℕ, zero, suc, ◌+◌, ◌*◌, cond, List, [], ◌∷◌, ◌++◌, leb, length, set, take, drop}
 use Rattle.terms.specs.Bounds.{numbers_per_trade}
 use Rattle.trades.specs.declared.{Trade.Trade}
 

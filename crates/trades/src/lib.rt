@@ -3,7 +3,7 @@
 
 mod pairing;
 
-pub use pairing::pair;
+pub use pairing::{Filled, pair};
 use terms::Place;
 
 // A trade at the auction price; buy and sell are the orders' numbers.

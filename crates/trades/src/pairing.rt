@@ -1,5 +1,5 @@
 // The trades: the two queues' shares paired from the front, each trade the smaller of the two (01 "Outcomes").
-ghost use Rattle.std.specs.Prelude.{◌&&◌, ◌≡◌, ◌∷◌, [], ◌++◌, ◌+◌, ◌*◌, ◌<◌, ◌≤◌, min, ltb, length, get_or, drop};
+ghost use Rattle.std.specs.Prelude.{◌&&◌, ◌≡◌, ◌∷◌, [], ◌++◌, ◌+◌, ◌*◌, ◌<◌, ◌≤◌, ltb, length, get_or, drop};
 ghost use Rattle.terms.specs.Bounds.{places};
 ghost use Rattle.trades.specs.Written.{quadruples, wrote};
 ghost use Rattle.queue.specs.RankNumbers.{along};
@@ -8,17 +8,19 @@ ghost use Rattle.trades.specs.OverShares.{advanced_to, paired_shares};
 use crate::Trade;
 use terms::Place;
 
+// The ranks of a queue's orders, and the shares of a total that the first of them get.
+#[derive(Clone, Copy)]
+pub struct Filled<'a> {
+    pub ranks: &'a [u64],
+    pub shares: &'a [u32],
+    pub ghost covered: { length shares.now ≤ length ranks.now },
+}
+
 // Where a queue is: the share at its front, and what is left of it.
 #[derive(Clone, Copy)]
 pub struct Front {
     pub at: usize,
     pub left: u32,
-}
-
-fn smaller(a: u32, b: u32) -> u32
-    ensures { result ≡ min a b }
-{
-    if a <= b { a } else { b }
 }
 
 // A share; 0 past the end.
@@ -74,35 +76,35 @@ fn going(b: usize, bought: usize, s: usize, sold: usize) -> bool
     (b < bought) & (s < sold)
 }
 
-// The trades of two queues, given by ranks and shares, written from the front of a list as far as it has room; how many.
-pub fn pair<'a>(
+// The trades of two queues, written from the front of a list as far as it has room; how many. The fronts move each at its own pace, so that
+// no range and no pair of iterators runs over them.
+pub fn pair(
     list: &mut [u32],
     price: u32,
-    numbers: &'a [u32; Place::COUNT],
-    buys: &'a [u64],
-    bought: &'a [u32],
-    sells: &'a [u64],
-    sold: &'a [u32],
+    numbers: &[u32; Place::COUNT],
+    bids: &Filled,
+    asks: &Filled,
 ) -> usize
-    requires { (length bought.now ≤ length buys.now) × (length sold.now ≤ length sells.now) × (length bought.now + length sold.now ≤ 2 * places) }
-    ensures { (result ≡ length (paired_shares numbers.now buys.now bought.now sells.now sold.now)) × (4 * result ≤ length list.old → list.new ≡ quadruples price (paired_shares numbers.now buys.now bought.now sells.now sold.now) ++ drop (4 * result) list.old) }
+    requires { length bids.now.shares.now + length asks.now.shares.now ≤ 2 * places }
+    ensures { (result ≡ length (paired_shares numbers.now bids.now.ranks.now bids.now.shares.now asks.now.ranks.now asks.now.shares.now))
+        × (4 * result ≤ length list.old → list.new ≡ quadruples price (paired_shares numbers.now bids.now.ranks.now bids.now.shares.now asks.now.ranks.now asks.now.shares.now) ++ drop (4 * result) list.old) }
 {
     let mut b = Front {
         at: 0,
-        left: share_at(bought, 0),
+        left: share_at(bids.shares, 0),
     };
     let mut s = Front {
         at: 0,
-        left: share_at(sold, 0),
+        left: share_at(asks.shares, 0),
     };
     let mut k: usize = 0;
-    while going(b.at, bought.len(), s.at, sold.len()) {
-        let q = smaller(b.left, s.left);
-        let buy = number_at(numbers, buys, b.at);
-        let sell = number_at(numbers, sells, s.at);
+    while going(b.at, bids.shares.len(), s.at, asks.shares.len()) {
+        let q = b.left.min(s.left);
+        let buy = number_at(numbers, bids.ranks, b.at);
+        let sell = number_at(numbers, asks.ranks, s.at);
         write_trade(list, k, buy, sell, q, price);
-        b = advanced(b, q, bought);
-        s = advanced(s, q, sold);
+        b = advanced(b, q, bids.shares);
+        s = advanced(s, q, asks.shares);
         k += 1;
     }
     k

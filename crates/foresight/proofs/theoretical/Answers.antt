@@ -1,6 +1,5 @@
 use mathlib.Core.Bool.{true}
 use mathlib.Core.Path.{◌≡◌, sym, ◌∙◌}
-use borrow.Author.Rules.{rules}
 use Rattle.terms.proofs.Made.{auction-good, auction-refused}
 use Rattle.terms.specs.Orders.{is_auction, auction_from}
 use Rattle.foresight.specs.TheoreticalCall.{theoretical-out-of-range, theoretical-turned-down, theoretical-foreseen}

@@ -1,7 +1,4 @@
 use borrow.Author.Rules.{rules}
-use Prim.Native.Nat.{◌-◌, ◌≤◌}
-use mathlib.Core.Path.{◌≡◌}
-use native.Mathlib.Omega.{arith}
 use Rattle.auction.specs.Ended.{ended_to}
 use Rattle.auction.proofs.Ended.{ended-next}
 use Rattle.auction.proofs.after.end_rests.Goals as goal
@@ -12,4 +9,4 @@ loop-place-init c = search rules
 
 pub loop-place-preserved : goal.loop-place-preserved
 loop-place-preserved c = let a = c.args in
-    (omega arith, ended-next a.auction a.validities.now a.lefts.now _ c.loop-place.lefts c.loop-place.invariant.1 _ c.rest_with.ensures)
+    ended-next a.auction a.validities.now a.lefts.now _ c.loop-place.lefts c.loop-place.invariant _ c.rest_with.ensures
