@@ -7,6 +7,7 @@ ghost use Rattle.records.specs.Walk.{length_at, part_at};
 ghost use Rattle.records.specs.Headers.{Headed, Unheaded, header_at};
 
 use crate::numbers::{byte, eight, four, two};
+use std::array;
 use terms::{Entry, OneStep, QuoteEntry, Row, SideEntry, Start, Table};
 
 // A record with whatever values its fields hold.
@@ -255,14 +256,7 @@ fn table_fields(part: &[u8]) -> Table
     let count = two(part, BandsPart::COUNT);
     Table {
         count,
-        first: row_at(part, count, 0),
-        second: row_at(part, count, 1),
-        third: row_at(part, count, 2),
-        fourth: row_at(part, count, 3),
-        fifth: row_at(part, count, 4),
-        sixth: row_at(part, count, 5),
-        seventh: row_at(part, count, 6),
-        eighth: row_at(part, count, 7),
+        rows: array::from_fn(|index| row_at(part, count, index)),
     }
 }
 
