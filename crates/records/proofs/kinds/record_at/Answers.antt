@@ -10,6 +10,6 @@ returns-then-bytes-place g c = let laws = g.met.P.Part in
 pub returns : goal.returns
 returns g c = let laws = g.met.P.Part in
     let length = c.LENGTH-2.ensures ∙ laws.long in
-    rw length
+    rw (← length) at
     (header-record _ _ (λ i. (c.type_inv.bytes i).fits) g.P.Part.kind laws.known refl c.requires.head
     (omega (arith, c.LENGTH.ensures, laws.long, c.if-bytes-place.false)) (rw length at c.read.ensures))
