@@ -80,17 +80,7 @@ bands_bytes =
 abbrev bands_record : Record
 bands_record =
     Record.Bands (record {
-      table = record {
-        count = 2;
-        first = record { lowest = 1; step = 10 };
-        second = record { lowest = 100_000; step = 50 };
-        third = no_row;
-        fourth = no_row;
-        fifth = no_row;
-        sixth = no_row;
-        seventh = no_row;
-        eighth = no_row;
-      };
+      table = record { count = 2; rows = record { lowest = 1; step = 10 } ∷ record { lowest = 100_000; step = 50 } ∷ replicate 6 no_row };
       reference = 100_000;
       factor = 9;
       threshold = 150;
@@ -117,7 +107,7 @@ abbrev nine_record : Record
 nine_record =
     let row : Row = record { lowest = 0x01010101; step = 0x01010101 } in
     Record.Bands (record {
-      table = record { count = 9; first = row; second = row; third = row; fourth = row; fifth = row; sixth = row; seventh = row; eighth = row };
+      table = record { count = 9; rows = replicate 8 row };
       reference = 0x01010101;
       factor = 0x0101;
       threshold = 0x0101;

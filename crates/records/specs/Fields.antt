@@ -1,6 +1,8 @@
 -- Fields: 01 "Session file". Little-endian, read from the part that starts at the record's fifth byte. A kind's layout is the list of its fields' widths.
-use Rattle.std.specs.Prelude.{ℕ, zero, suc, ◌+◌, ◌*◌, Bool, cond, not, ◌&&◌, List, [], ◌∷◌, eqb, ltb, get_or, drop}
+use Rattle.std.specs.Prelude.{ℕ, zero, suc, ◌+◌, ◌*◌, Bool, cond, not, ◌&&◌, List, [], ◌∷◌, eqb, ltb, get_or, drop, map}
+use Rattle.std.specs.List.{range_with_len}
 use Rattle.lists.specs.Sums.{sum}
+use Rattle.terms.specs.Bounds.{max_rows}
 use Rattle.terms.specs.Kinds.{is_number, is_member}
 use Rattle.terms.specs.Orders.{is_entry, is_auction}
 use Rattle.terms.specs.Parameters.{start_with, is_start}
@@ -127,17 +129,7 @@ row_field part count index = cond (ltb index count) (record { lowest = number pa
 
 -- so many rows counted, of which a table has place for eight
 abbrev pub table_by : List ℕ → ℕ → Table
-table_by part count = record {
-  count = count;
-  first = row_field part count 0;
-  second = row_field part count 1;
-  third = row_field part count 2;
-  fourth = row_field part count 3;
-  fifth = row_field part count 4;
-  sixth = row_field part count 5;
-  seventh = row_field part count 6;
-  eighth = row_field part count 7;
-}
+table_by part count = record { count = count; rows = map (row_field part count) (range_with_len 0 max_rows) }
 
 -- .. and what stands behind all of them
 abbrev pub bands_by : List ℕ → ℕ → Start

@@ -1,6 +1,8 @@
 -- Tables of steps in bytes: 02 K6. The rows of a start by bands as its layout has them.
-use Rattle.std.specs.Prelude.{ℕ, zero, suc, ◌+◌, ◌*◌, ◌^◌, ◌<◌, Bool, true, false, cond, ◌&&◌, ◌≡◌, refl, List, [], ◌∷◌, ◌++◌, T, leb, ltb, eqb, length, take, drop, get_or, replicate}
-use Rattle.std.proofs.Common.{ap, arith, eqb→eq, take-append-drop}
+use Rattle.std.specs.Prelude.{ℕ, zero, suc, ◌+◌, ◌*◌, ◌^◌, ◌<◌, Bool, true, false, cond, ◌&&◌, ◌≡◌, refl, List, [], ◌∷◌, ◌++◌, T, leb, ltb, eqb, ◌-◌, length, take, drop, get_or, map}
+use Rattle.std.specs.List.{range_with_len}
+use Rattle.std.proofs.Common.{sym, ◌∙◌, ap, arith, eqb→eq, ltb-true, ltb-false, get_or-drop, ext_get_or}
+use Rattle.std.proofs.lemmas.List.FromFn.{get_or-map-range_with_len}
 use Rattle.lists.specs.Choice.{all}
 use Rattle.lists.specs.Tests.{tests, and_both}
 use Rattle.terms.specs.Bounds.{min_rows, max_rows}
@@ -87,17 +89,7 @@ row_from count ns index = cond (ltb index count) (record { lowest = get_or ns (1
 
 abbrev pub as_bands : ℕ → List ℕ → Start
 as_bands count ns = record {
-  table = record {
-    count = count;
-    first = row_from count ns 0;
-    second = row_from count ns 1;
-    third = row_from count ns 2;
-    fourth = row_from count ns 3;
-    fifth = row_from count ns 4;
-    sixth = row_from count ns 5;
-    seventh = row_from count ns 6;
-    eighth = row_from count ns 7;
-  };
+  table = record { count = count; rows = map (row_from count ns) (range_with_len 0 max_rows) };
   reference = get_or ns (1 + 2 * count) 0;
   factor = get_or ns (2 + 2 * count) 0;
   threshold = get_or ns (3 + 2 * count) 0;
@@ -109,48 +101,62 @@ bands-numbered part =
     of-count (λ (count : ℕ). bands_by part count ≡ as_bands count (number part 0 2 ∷ fields_from (row_widths count) part 2))
     refl refl refl refl refl refl refl refl
 
-no-row : (lowest step : ℕ) → lowest ≡ 0 → step ≡ 0 → ◌≡◌ {A = Row} (record { lowest = lowest; step = step }) no_row
-no-row lowest step a b = rw (a, b)
+-- a row that is counted, and what stands behind all of them, by their places among the numbers
+row-numbered : (n i : ℕ) (rs : List Row) (later : List ℕ) → i < n
+    → (get_or (row_numbers n rs ++ later) (2 * i) 0 ≡ (get_or rs i no_row).lowest) × (get_or (row_numbers n rs ++ later) (suc (2 * i)) 0 ≡ (get_or rs i no_row).step)
+row-numbered zero i rs later h = absurd (omega (arith, h))
+row-numbered (suc n) zero [] later h = (refl, refl)
+row-numbered (suc n) zero (r ∷ rs) later h = (refl, refl)
+row-numbered (suc n) (suc i) [] later h = let e : 2 * suc i ≡ suc (suc (2 * i)) = omega arith in rw e (row-numbered n i [] later (omega (arith, h)))
+row-numbered (suc n) (suc i) (r ∷ rs) later h = let e : 2 * suc i ≡ suc (suc (2 * i)) = omega arith in rw e (row-numbered n i rs later (omega (arith, h)))
 
-no_rows : (rs : List Row) → T (all is_no_row rs) → rs ≡ replicate (length rs) no_row
-no_rows [] h = refl
-no_rows (r ∷ rs) h =
-    let (here, behind) = and_both (is_no_row r) (all is_no_row rs) h in
-    let (lowest, step) = and_both (eqb r.lowest 0) (eqb r.step 0) here in
-    rw (no-row r.lowest r.step (eqb→eq _ _ lowest) (eqb→eq _ _ step)) (ap (λ (l : List Row). no_row ∷ l) (no_rows rs behind))
+behind-rows : (n k : ℕ) (rs : List Row) (later : List ℕ) → get_or (row_numbers n rs ++ later) (2 * n + k) 0 ≡ get_or later k 0
+behind-rows zero k rs later = let e : 2 * 0 + k ≡ k = omega arith in rw e
+behind-rows (suc n) k [] later = let e : 2 * suc n + k ≡ suc (suc (2 * n + k)) = omega arith in rw e (behind-rows n k [] later)
+behind-rows (suc n) k (r ∷ rs) later = let e : 2 * suc n + k ≡ suc (suc (2 * n + k)) = omega arith in rw e (behind-rows n k rs later)
 
--- a start with other rows, so many of them counted
-abbrev with_rows : Start → ℕ → List Row → Start
-with_rows s count rs = record {
-  table = record {
-    count = count;
-    first = get_or rs 0 no_row;
-    second = get_or rs 1 no_row;
-    third = get_or rs 2 no_row;
-    fourth = get_or rs 3 no_row;
-    fifth = get_or rs 4 no_row;
-    sixth = get_or rs 5 no_row;
-    seventh = get_or rs 6 no_row;
-    eighth = get_or rs 7 no_row;
-  };
-  reference = s.reference;
-  factor = s.factor;
-  threshold = s.threshold;
-  most = s.most;
-}
+-- a row that isn't counted is 0
+no-row : (r : Row) → T (is_no_row r) → r ≡ no_row
+no-row r h = let (lowest, step) = and_both (eqb r.lowest 0) (eqb r.step 0) h in rw (eqb→eq _ _ lowest, eqb→eq _ _ step)
+
+no_rows : (rs : List Row) (i : ℕ) → T (all is_no_row rs) → get_or rs i no_row ≡ no_row
+no_rows [] i h = refl
+no_rows (r ∷ rs) zero h = no-row r (and_both (is_no_row r) (all is_no_row rs) h).0
+no_rows (r ∷ rs) (suc i) h = no_rows rs i (and_both (is_no_row r) (all is_no_row rs) h).1
 
 -- a start is the one that its numbers make, since the rows that aren't counted are 0
 module _ (s : Start) where
+  abbrev n : ℕ
+  n = s.table.count
+
   abbrev rs : List Row
   rs = all_rows s.table
 
-  counted-alone : (n : ℕ) → T (all is_no_row (drop n rs)) → with_rows s n (take n rs ++ replicate (length (drop n rs)) no_row) ≡ with_rows s n rs
-  counted-alone n h = rw (← no_rows (drop n rs) h, take-append-drop n rs)
+  abbrev later : List ℕ
+  later = s.reference ∷ s.factor ∷ s.threshold ∷ s.most ∷ []
 
-  pub bands-back : T (is_table s.table) → as_bands s.table.count (numbers_of (Record.Bands s)) ≡ s
+  abbrev ns : List ℕ
+  ns = numbers_of (Record.Bands s)
+
+  row-back : T (all is_no_row (drop n rs)) → (i : ℕ) → row_from n ns i ≡ get_or rs i no_row
+  row-back h i = go (ltb i n) refl where
+    go : (b : Bool) → ltb i n ≡ b → cond b (record { lowest = get_or ns (1 + 2 * i) 0; step = get_or ns (2 + 2 * i) 0 }) no_row ≡ get_or rs i no_row
+    go true e = let (lowest, step) = row-numbered n i rs later (ltb-true i n e) in let p : 1 + 2 * i ≡ suc (2 * i) = omega arith in let q : 2 + 2 * i ≡ suc (suc (2 * i)) = omega arith in rw (p, q, lowest, step)
+    go false e = let p : n + (i - n) ≡ i = omega (arith, ltb-false i n e) in sym (no_rows (drop n rs) (i - n) h) ∙ get_or-drop n rs (i - n) no_row ∙ rw p
+
+  rows-back : length rs ≡ max_rows → T (all is_no_row (drop n rs)) → map (row_from n ns) (range_with_len 0 max_rows) ≡ rs
+  rows-back l h =
+      ext_get_or no_row (map (row_from n ns) (range_with_len 0 max_rows)) rs (sym l)
+      (λ i k. get_or-map-range_with_len (row_from n ns) 0 max_rows i i no_row k (omega arith) ∙ row-back h i)
+
+  later-back : (k i : ℕ) → i ≡ suc (2 * n + k) → get_or ns i 0 ≡ get_or later k 0
+  later-back k i e = rw e (behind-rows n k rs later)
+
+  made : {rows : List Row} {a b c d : ℕ} → rows ≡ rs → a ≡ s.reference → b ≡ s.factor → c ≡ s.threshold → d ≡ s.most
+      → ◌≡◌ {A = Start} (record { table = record { count = n; rows = rows }; reference = a; factor = b; threshold = c; most = d }) s
+  made p a b c d = rw (p, a, b, c, d)
+
+  pub bands-back : T (is_table s.table) → as_bands n ns ≡ s
   bands-back h =
       let parts = table-parts s.table h in
-      of-count
-      (λ (n : ℕ). T (all is_no_row (drop n rs)) → as_bands n (n ∷ row_numbers n rs ++ (s.reference ∷ s.factor ∷ s.threshold ∷ s.most ∷ [])) ≡ with_rows s n rs)
-      (counted-alone 1) (counted-alone 2) (counted-alone 3) (counted-alone 4) (counted-alone 5) (counted-alone 6) (counted-alone 7) (counted-alone 8)
-      s.table.count parts.counted parts.unused
+      made (rows-back parts.placed parts.unused) (later-back 0 _ (omega arith)) (later-back 1 _ (omega arith)) (later-back 2 _ (omega arith)) (later-back 3 _ (omega arith))

@@ -1,12 +1,13 @@
 // The kinds of record: for each its layout, what it holds, the reader of its fields over the part of the file that starts at the record's fifth
 // byte (D1), and its header (01 "Session file").
-ghost use Rattle.std.specs.Prelude.{◌≡◌, ◌+◌, ◌≤◌, ◌<◌, length};
+ghost use Rattle.std.specs.Prelude.{◌≡◌, refl, ℕ, ◌+◌, ◌≤◌, ◌<◌, false, eqb, length};
 ghost use Rattle.terms.specs.Bounds.{max_rows};
-ghost use Rattle.records.specs.Fields.{header_length, band_widths, whole_length, start_fields, order_fields, delete_fields, auction_field, quote_fields, row_field, table_fields, bands_fields};
+ghost use Rattle.records.specs.Fields.{number, header_length, band_widths, whole_length, kind_length, record_of, start_fields, order_fields, delete_fields, auction_field, quote_fields, row_field, table_fields, bands_fields};
 ghost use Rattle.records.specs.Walk.{length_at, part_at};
 ghost use Rattle.records.specs.Headers.{Headed, Unheaded, header_at};
 
 use crate::numbers::{byte, eight, four, two};
+use std::array;
 use terms::{Entry, OneStep, QuoteEntry, Row, SideEntry, Start, Table};
 
 // A record with whatever values its fields hold.
@@ -255,14 +256,7 @@ fn table_fields(part: &[u8]) -> Table
     let count = two(part, BandsPart::COUNT);
     Table {
         count,
-        first: row_at(part, count, 0),
-        second: row_at(part, count, 1),
-        third: row_at(part, count, 2),
-        fourth: row_at(part, count, 3),
-        fifth: row_at(part, count, 4),
-        sixth: row_at(part, count, 5),
-        seventh: row_at(part, count, 6),
-        eighth: row_at(part, count, 7),
+        rows: array::from_fn(|index| row_at(part, count, index)),
     }
 }
 
@@ -289,65 +283,115 @@ pub(crate) enum Header {
     Bad,
 }
 
-// For each kind the record behind its header. Each has its constant length, so that the field readers' tests vanish when compiled.
-fn start_at(bytes: &[u8], place: usize) -> Header
-    requires { Headed 1 bytes.now place }
-    ensures { result ≡ header_at bytes.now place }
-{
-    if bytes.len() - place < Kind::START_LENGTH {
-        return Header::Cut;
-    }
-    let from = place + Kind::HEADER_LENGTH;
-    let next = place + Kind::START_LENGTH;
-    Header::Record(Record::Start(start_fields(&bytes[from..next])), next)
+// A kind of one length, and how the fields of its record are read.
+trait Part {
+    // Its number.
+    ghost kind: { ℕ };
+
+    // How many bytes its records have, with the header.
+    ghost LENGTH: { ℕ };
+
+    const LENGTH: usize;
+
+    fn read(part: &[u8]) -> Record
+        ensures { result ≡ record_of kind part.now };
+
+    ghost known: { eqb (kind_length kind) 0 ≡ false };
+
+    ghost long: { LENGTH ≡ kind_length kind };
 }
 
-fn order_at(bytes: &[u8], place: usize) -> Header
-    requires { Headed 2 bytes.now place }
-    ensures { result ≡ header_at bytes.now place }
-{
-    if bytes.len() - place < Kind::ORDER_LENGTH {
-        return Header::Cut;
+impl Part for StartPart {
+    ghost kind = { 1 };
+
+    ghost LENGTH = { kind_length 1 };
+
+    const LENGTH: usize = Kind::START_LENGTH;
+
+    fn read(part: &[u8]) -> Record {
+        Record::Start(start_fields(part))
     }
-    let from = place + Kind::HEADER_LENGTH;
-    let next = place + Kind::ORDER_LENGTH;
-    Header::Record(Record::Order(order_fields(&bytes[from..next])), next)
+
+    ghost known = { refl };
+
+    ghost long = { refl };
 }
 
-fn delete_at(bytes: &[u8], place: usize) -> Header
-    requires { Headed 3 bytes.now place }
-    ensures { result ≡ header_at bytes.now place }
-{
-    if bytes.len() - place < Kind::DELETE_LENGTH {
-        return Header::Cut;
+impl Part for OrderPart {
+    ghost kind = { 2 };
+
+    ghost LENGTH = { kind_length 2 };
+
+    const LENGTH: usize = Kind::ORDER_LENGTH;
+
+    fn read(part: &[u8]) -> Record {
+        Record::Order(order_fields(part))
     }
-    let from = place + Kind::HEADER_LENGTH;
-    let next = place + Kind::DELETE_LENGTH;
-    Header::Record(Record::Delete(delete_fields(&bytes[from..next])), next)
+
+    ghost known = { refl };
+
+    ghost long = { refl };
 }
 
-fn auction_at(bytes: &[u8], place: usize) -> Header
-    requires { Headed 4 bytes.now place }
-    ensures { result ≡ header_at bytes.now place }
-{
-    if bytes.len() - place < Kind::AUCTION_LENGTH {
-        return Header::Cut;
+impl Part for DeletePart {
+    ghost kind = { 3 };
+
+    ghost LENGTH = { kind_length 3 };
+
+    const LENGTH: usize = Kind::DELETE_LENGTH;
+
+    fn read(part: &[u8]) -> Record {
+        Record::Delete(delete_fields(part))
     }
-    let from = place + Kind::HEADER_LENGTH;
-    let next = place + Kind::AUCTION_LENGTH;
-    Header::Record(Record::Auction(auction_field(&bytes[from..next])), next)
+
+    ghost known = { refl };
+
+    ghost long = { refl };
 }
 
-fn quote_at(bytes: &[u8], place: usize) -> Header
-    requires { Headed 5 bytes.now place }
+impl Part for AuctionPart {
+    ghost kind = { 4 };
+
+    ghost LENGTH = { kind_length 4 };
+
+    const LENGTH: usize = Kind::AUCTION_LENGTH;
+
+    fn read(part: &[u8]) -> Record {
+        Record::Auction(auction_field(part))
+    }
+
+    ghost known = { refl };
+
+    ghost long = { refl };
+}
+
+impl Part for QuotePart {
+    ghost kind = { 5 };
+
+    ghost LENGTH = { kind_length 5 };
+
+    const LENGTH: usize = Kind::QUOTE_LENGTH;
+
+    fn read(part: &[u8]) -> Record {
+        Record::Quote(quote_fields(part))
+    }
+
+    ghost known = { refl };
+
+    ghost long = { refl };
+}
+
+// The record behind the header of such a kind. Its length is constant, so that the field readers' tests vanish when compiled.
+fn record_at<P: Part>(bytes: &[u8], place: usize) -> Header
+    requires { Headed P.kind bytes.now place }
     ensures { result ≡ header_at bytes.now place }
 {
-    if bytes.len() - place < Kind::QUOTE_LENGTH {
+    if bytes.len() - place < P::LENGTH {
         return Header::Cut;
     }
     let from = place + Kind::HEADER_LENGTH;
-    let next = place + Kind::QUOTE_LENGTH;
-    Header::Record(Record::Quote(quote_fields(&bytes[from..next])), next)
+    let next = place + P::LENGTH;
+    Header::Record(P::read(&bytes[from..next]), next)
 }
 
 // The start by bands that stands at a place, for one who knows that it does: told apart by its header, and read when it is needed (02 K6).
@@ -386,18 +430,26 @@ fn bands_at(bytes: &[u8], place: usize, head: u32) -> Header
     Header::Record(Record::Bands(bands_fields(&bytes[from..next])), next)
 }
 
+// Length and kind as one number, of a part of constant length, so that the reader's tests vanish when compiled.
+fn head_at(bytes: &[u8], place: usize) -> u32
+    requires { place + header_length ≤ length bytes.now }
+    ensures { result ≡ number bytes.now place 4 }
+{
+    four(&bytes[place..place + Kind::HEADER_LENGTH], 0)
+}
+
 // Which kind's header it is.
 pub(crate) fn header_at(bytes: &[u8], place: usize) -> Header
     requires { place + header_length ≤ length bytes.now }
     ensures { result ≡ header_at bytes.now place }
 {
-    let head = four(bytes, place);
+    let head = head_at(bytes, place);
     match head {
-        Kind::START_HEAD => start_at(bytes, place),
-        Kind::ORDER_HEAD => order_at(bytes, place),
-        Kind::DELETE_HEAD => delete_at(bytes, place),
-        Kind::AUCTION_HEAD => auction_at(bytes, place),
-        Kind::QUOTE_HEAD => quote_at(bytes, place),
+        Kind::START_HEAD => record_at::<StartPart>(bytes, place),
+        Kind::ORDER_HEAD => record_at::<OrderPart>(bytes, place),
+        Kind::DELETE_HEAD => record_at::<DeletePart>(bytes, place),
+        Kind::AUCTION_HEAD => record_at::<AuctionPart>(bytes, place),
+        Kind::QUOTE_HEAD => record_at::<QuotePart>(bytes, place),
         _ => bands_at(bytes, place, head),
     }
 }

@@ -1,5 +1,5 @@
 -- Worked examples of tables of steps: 02 K6. From 1 on steps of 1, from 1,000 on steps of 5, from 2,500 on steps of 100.
-use Rattle.std.specs.Prelude.{true, false, ◌≡◌, refl}
+use Rattle.std.specs.Prelude.{true, false, ◌≡◌, refl, ◌∷◌, replicate}
 use Rattle.terms.specs.Tables.{no_row, row_of, on_step, is_table, one_row}
 use Rattle.terms.specs.TableExamples.{row, sample, three}
 
@@ -45,7 +45,7 @@ above-prices : is_table (three (row 1 1) (row 1_000 5) (row 100_000_001 100)) �
 unfolding is_table
 above-prices = refl
 
-two-counted : is_table (record { count = 2; first = row 1 1; second = row 1_000 5; third = row 2_500 100; fourth = no_row; fifth = no_row; sixth = no_row; seventh = no_row; eighth = no_row }) ≡ false
+two-counted : is_table (record { count = 2; rows = row 1 1 ∷ row 1_000 5 ∷ row 2_500 100 ∷ replicate 5 no_row }) ≡ false
 unfolding is_table
 two-counted = refl
 

@@ -1,40 +1,32 @@
 -- The laws of tables of steps, 02 K6: the row of a price, and a table tested row by row.
 use Rattle.std.specs.Prelude.{ℕ, zero, suc, ◌+◌, ◌≤◌, ◌<◌, Bool, true, false, ◌&&◌, ◌⊎◌, ◌≡◌, refl, List, [], ◌∷◌, T, leb, ltb, eqb, length, take, drop, get_or}
-use Rattle.std.proofs.Common.{inl, inr, ⊎_elim, ap, arith, leb→le, take_all, length-take-le, le-leb, leb-true, leb-false, ltb-true, ltb-false, eqb-true}
+use Rattle.std.proofs.Common.{sym, ◌∙◌, drop_of_length-le, inl, inr, ⊎_elim, ap, arith, leb→le, length-take-le, le-leb, leb-true, leb-false, ltb-true, ltb-false, eqb-true, eq-eqb, eqb→eq}
+use Rattle.std.specs.List.{fold}
 use Rattle.std.proofs.lemmas.Bool.{lt-leb}
 use Rattle.lists.specs.Tests.{passes, and_both}
 use Rattle.lists.specs.Choice.{all}
 use Rattle.terms.specs.Bounds.{min_price, min_rows, max_rows}
 use Rattle.terms.specs.Kinds.{within, is_step, is_multiple}
-use Rattle.terms.specs.Tables.{all_rows, rows, no_row, later_of, last_of, row_of, is_row, begins_lowest, rise, is_no_row, is_table, on_step, one_row, row_follows, rows_follow}
+use Rattle.terms.specs.Tables.{all_rows, rows, no_row, later_of, last_of, row_of, is_row, has_places, begins_lowest, rise, is_no_row, is_table, on_step, one_row, rows_follow}
 use Rattle.terms.specs.declared.tables.{Row.Row, Table.Table}
 use Rattle.terms.specs.TableLaws.{AllAbove, LastIn, TableParts}
 
 pub table-parts : (t : Table) → T (is_table t) → TableParts t
 unfolding is_table
 table-parts t holds =
-    let a = within min_rows max_rows t.count in
+    let a = has_places t && within min_rows max_rows t.count in
     let (abcd, e) = and_both (a && begins_lowest (rows t) && rise 0 (rows t) && all is_row (rows t)) (all is_no_row (drop t.count (all_rows t))) holds in
     let (abc, d) = and_both (a && begins_lowest (rows t) && rise 0 (rows t)) (all is_row (rows t)) abcd in
     let (ab, c) = and_both (a && begins_lowest (rows t)) (rise 0 (rows t)) abc in
-    let (counted, begins) = and_both a (begins_lowest (rows t)) ab in
-    record { counted = counted; begins = begins; rises = c; each_row = d; unused = e }
+    let (both, begins) = and_both a (begins_lowest (rows t)) ab in
+    let (placed, counted) = and_both (has_places t) (within min_rows max_rows t.count) both in
+    record { placed = eqb→eq (length (all_rows t)) max_rows placed; counted = counted; begins = begins; rises = c; each_row = d; unused = e }
 
 -- ---- the row of a price
-from-none : (n : ℕ) → 0 ≤ n
-from-none n = omega arith
-
-four-more : {n k : ℕ} → k ≤ n → (n ≡ k → ⊥) → (n ≡ suc k → ⊥) → (n ≡ suc (suc k) → ⊥) → (n ≡ suc (suc (suc k)) → ⊥) → suc (suc (suc (suc k))) ≤ n
-four-more l a b c d = omega arith
-
--- neither none nor one to seven rows are counted
-pub all-counted : (n : ℕ) → (n ≡ 0 → ⊥) → (n ≡ 1 → ⊥) → (n ≡ 2 → ⊥) → (n ≡ 3 → ⊥) → (n ≡ 4 → ⊥) → (n ≡ 5 → ⊥) → (n ≡ 6 → ⊥) → (n ≡ 7 → ⊥) → max_rows ≤ n
-all-counted n a b c d e f g h = four-more (four-more {k = 0} (from-none n) a b c d) e f g h
-
--- all rows are counted
-pub row-of-all : (t : Table) (price : ℕ) → max_rows ≤ t.count → last_of price no_row (all_rows t) ≡ row_of t price
-unfolding row_of
-row-of-all t price h = rw (take_all t.count (all_rows t) h)
+-- .. found row by row
+pub last-folded : (price : ℕ) (found : Row) (rs : List Row) → fold (later_of price) found rs ≡ last_of price found rs
+last-folded price found [] = refl
+last-folded price found (r ∷ rs) = last-folded price (later_of price found r) rs
 
 module _ (price : ℕ) (r : Row) (rs : List Row) where
   first-row : r.lowest ≤ price → AllAbove price rs → LastIn price (r ∷ rs) r
@@ -89,7 +81,10 @@ row-found t holds price h =
 
 -- as many rows are counted as there are
 pub rows-counted : (t : Table) → T (is_table t) → length (rows t) ≡ t.count
-rows-counted t holds = length-take-le t.count (all_rows t) (leb→le t.count max_rows (and_both (leb min_rows t.count) (leb t.count max_rows) (table-parts t holds).counted).1)
+rows-counted t holds =
+    let parts = table-parts t holds in
+    let most = leb→le t.count max_rows (and_both (leb min_rows t.count) (leb t.count max_rows) parts.counted).1 in
+    length-take-le t.count (all_rows t) (omega (arith, parts.placed, most))
 
 -- ---- one step for all prices
 -- its row is a table where the step is a step, and every price falls in it
@@ -130,23 +125,23 @@ in_a_row true true false d = refl
 in_a_row true false c d = refl
 in_a_row false b c d = refl
 
-alone : (a : Bool) → a && true ≡ a
-alone true = refl
-alone false = refl
+-- no row is left to test
+pub none_left : (i count before : ℕ) (rs : List Row) {so_far every : Bool} → length rs ≤ i → so_far && rows_follow (i + 1) count before (drop i rs) ≡ every → so_far ≡ every
+none_left i count before rs {so_far} h e = let d = drop_of_length-le rs h in sym (alone so_far) ∙ rw d at e where
+  alone : (a : Bool) → a && true ≡ a
+  alone true = refl
+  alone false = refl
 
 -- a table: 1 to 8 rows, the first beginning at 1, and each row by the one before it
-pub table-holds : (t : Table) {a b c d e f g h : Bool}
-    → a ≡ row_follows (leb 1 t.count) 0 t.first → b ≡ row_follows (leb 2 t.count) t.first.lowest t.second
-    → c ≡ row_follows (leb 3 t.count) t.second.lowest t.third → d ≡ row_follows (leb 4 t.count) t.third.lowest t.fourth
-    → e ≡ row_follows (leb 5 t.count) t.fourth.lowest t.fifth → f ≡ row_follows (leb 6 t.count) t.fifth.lowest t.sixth
-    → g ≡ row_follows (leb 7 t.count) t.sixth.lowest t.seventh → h ≡ row_follows (leb 8 t.count) t.seventh.lowest t.eighth
-    → within min_rows max_rows t.count && eqb t.first.lowest min_price && (a && (b && (c && (d && (e && (f && (g && h))))))) ≡ is_table t
+pub table-holds : (t : Table) {every : Bool} → length (all_rows t) ≡ max_rows → every ≡ rows_follow 1 t.count 0 (all_rows t)
+    → within min_rows max_rows t.count && eqb (get_or (all_rows t) 0 no_row).lowest min_price && every ≡ is_table t
 unfolding is_table
-table-holds t a b c d e f g h =
-    rw (a, b, c, d, e, f, g, h, ← alone (row_follows (leb 8 t.count) t.seventh.lowest t.eighth)) (go t.count) where
-      go : (n : ℕ) → within min_rows max_rows n && eqb t.first.lowest min_price && rows_follow 1 n 0 (all_rows t)
-          ≡ within min_rows max_rows n && begins_lowest (take n (all_rows t)) && rise 0 (take n (all_rows t)) && all is_row (take n (all_rows t)) && all is_no_row (drop n (all_rows t))
-      go zero = refl
-      go (suc n) =
-          rw (← all-follow (all_rows t) (suc n) 1 (suc n) 0 (omega arith))
-          (in_a_row (within min_rows max_rows (suc n) && eqb t.first.lowest min_price) (rise 0 (take (suc n) (all_rows t))) (all is_row (take (suc n) (all_rows t))) (all is_no_row (drop (suc n) (all_rows t))))
+table-holds t places e = rw (eq-eqb _ _ places, e) (go t.count (all_rows t) places) where
+  go : (n : ℕ) (rs : List Row) → length rs ≡ max_rows
+      → within min_rows max_rows n && eqb (get_or rs 0 no_row).lowest min_price && rows_follow 1 n 0 rs
+      ≡ within min_rows max_rows n && begins_lowest (take n rs) && rise 0 (take n rs) && all is_row (take n rs) && all is_no_row (drop n rs)
+  go zero rs p = refl
+  go (suc n) [] p = absurd (omega (arith, p))
+  go (suc n) (r ∷ rs) p =
+      rw (← all-follow (r ∷ rs) (suc n) 1 (suc n) 0 (omega arith))
+      (in_a_row (within min_rows max_rows (suc n) && eqb r.lowest min_price) (rise 0 (take (suc n) (r ∷ rs))) (all is_row (take (suc n) (r ∷ rs))) (all is_no_row (drop (suc n) (r ∷ rs))))

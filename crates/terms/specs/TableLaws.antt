@@ -8,6 +8,7 @@ use Rattle.terms.specs.declared.tables.{Row.Row, Table.Table}
 
 -- ---- what a table is
 pub record TableParts (t : Table) : Type 0 where
+  pub placed : length (all_rows t) ≡ max_rows
   pub counted : T (within min_rows max_rows t.count)
   pub begins : T (begins_lowest (rows t))
   pub rises : T (rise 0 (rows t))

@@ -1,5 +1,5 @@
 -- Price steps by band: 02 K6. Rows of a lowest price and a step; a start of kind 1 means one row.
-use Rattle.std.specs.Prelude.{ℕ, suc, Bool, true, false, cond, ◌&&◌, List, [], ◌∷◌, leb, ltb, eqb, take, drop}
+use Rattle.std.specs.Prelude.{ℕ, suc, ◌-◌, Bool, true, false, cond, ◌&&◌, List, [], ◌∷◌, leb, ltb, eqb, length, replicate, take, drop}
 use Rattle.lists.specs.Choice.{all}
 use Rattle.terms.specs.Bounds.{min_price, min_rows, max_rows}
 use Rattle.terms.specs.Kinds.{within, is_price, is_step, is_multiple}
@@ -7,8 +7,7 @@ use Rattle.terms.specs.declared.tables.{Row.Row, Table.Table}
 
 -- up to eight rows
 abbrev pub all_rows : Table → List Row
-all_rows t =
-    t.first ∷ t.second ∷ t.third ∷ t.fourth ∷ t.fifth ∷ t.sixth ∷ t.seventh ∷ t.eighth ∷ []
+all_rows t = t.rows
 
 -- those counted
 abbrev pub rows : Table → List Row
@@ -37,9 +36,13 @@ no_row = record { lowest = 0; step = 0 }
 abbrev pub is_no_row : Row → Bool
 is_no_row r = eqb r.lowest 0 && eqb r.step 0
 
+-- place for eight rows, as every table of the code has
+abbrev pub has_places : Table → Bool
+has_places t = eqb (length (all_rows t)) max_rows
+
 -- 1 to 8 rows are counted; the first begins at 1, lowest prices rise strictly, each row is one; unused rows are 0
 unfoldable pub is_table : Table → Bool
-is_table t = within min_rows max_rows t.count && begins_lowest (rows t) && rise 0 (rows t) && all is_row (rows t) && all is_no_row (drop t.count (all_rows t))
+is_table t = has_places t && within min_rows max_rows t.count && begins_lowest (rows t) && rise 0 (rows t) && all is_row (rows t) && all is_no_row (drop t.count (all_rows t))
 
 -- ---- the step of a price
 
@@ -66,17 +69,7 @@ is_reference t x = is_price x && on_step t x
 
 -- ---- one step for all prices
 abbrev pub one_row : ℕ → Table
-one_row step = record {
-  count = 1;
-  first = record { lowest = min_price; step = step };
-  second = no_row;
-  third = no_row;
-  fourth = no_row;
-  fifth = no_row;
-  sixth = no_row;
-  seventh = no_row;
-  eighth = no_row;
-}
+one_row step = record { count = 1; rows = record { lowest = min_price; step = step } ∷ replicate (max_rows - 1) no_row }
 
 -- ---- row by row, as the code tests a table
 

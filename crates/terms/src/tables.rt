@@ -45,77 +45,35 @@ impl Row {
 #[derive(Clone, Copy)]
 pub struct Table {
     pub count: u16,
-    pub first: Row,
-    pub second: Row,
-    pub third: Row,
-    pub fourth: Row,
-    pub fifth: Row,
-    pub sixth: Row,
-    pub seventh: Row,
-    pub eighth: Row,
+    pub rows: [Row; Table::ROWS],
 }
 
 impl Table {
-    pub const MOST: u16 = 8;
+    // As many rows as a table has place for, counted or not.
+    pub const ROWS: usize = 8;
+
+    pub const MOST: u16 = Table::ROWS as u16;
 
     // One step for all prices.
     pub fn one(step: u32) -> Table
         ensures { result ≡ one_row step }
     {
-        let none = Row::none();
-        Table {
-            count: 1,
-            first: Row {
-                lowest: Price::MIN,
-                step,
-            },
-            second: none,
-            third: none,
-            fourth: none,
-            fifth: none,
-            sixth: none,
-            seventh: none,
-            eighth: none,
-        }
+        let mut rows = [Row::none(); Table::ROWS];
+        rows[0] = Row {
+            lowest: Price::MIN,
+            step,
+        };
+        Table { count: 1, rows }
     }
 
     // The last row that doesn't begin above the price: as many comparisons with it as there are rows.
     fn row_of(self, price: u32) -> Row
         ensures { result ≡ row_of self price }
     {
-        let count = self.count;
-        if count == 0 {
-            return Row::none();
-        }
-        let a = self.first.later(price, Row::none());
-        if count == 1 {
-            return a;
-        }
-        let b = self.second.later(price, a);
-        if count == 2 {
-            return b;
-        }
-        let c = self.third.later(price, b);
-        if count == 3 {
-            return c;
-        }
-        let d = self.fourth.later(price, c);
-        if count == 4 {
-            return d;
-        }
-        let e = self.fifth.later(price, d);
-        if count == 5 {
-            return e;
-        }
-        let f = self.sixth.later(price, e);
-        if count == 6 {
-            return f;
-        }
-        let g = self.seventh.later(price, f);
-        if count == 7 {
-            return g;
-        }
-        self.eighth.later(price, g)
+        self.rows
+            .iter()
+            .take(usize::from(self.count))
+            .fold(Row::none(), |found, row| row.later(price, found))
     }
 
     // A price on the step of the row in which it falls.
@@ -131,17 +89,13 @@ impl Table {
         ensures { result ≡ is_table self }
     {
         let count = self.count;
-        let first = self.first;
-        let a = first.follows(1 <= count, 0);
-        let b = self.second.follows(2 <= count, first.lowest);
-        let c = self.third.follows(3 <= count, self.second.lowest);
-        let d = self.fourth.follows(4 <= count, self.third.lowest);
-        let e = self.fifth.follows(5 <= count, self.fourth.lowest);
-        let f = self.sixth.follows(6 <= count, self.fifth.lowest);
-        let g = self.seventh.follows(7 <= count, self.sixth.lowest);
-        let h = self.eighth.follows(8 <= count, self.seventh.lowest);
-        ((1 <= count) & (count <= Table::MOST))
-            & (first.lowest == Price::MIN)
-            & (a & (b & (c & (d & (e & (f & (g & h)))))))
+        let first = self.rows[0];
+        let mut before = 0;
+        let mut rise = true;
+        for (i, row) in self.rows.iter().enumerate() {
+            rise &= row.follows(i < usize::from(count), before);
+            before = row.lowest;
+        }
+        ((1 <= count) & (count <= Table::MOST)) & (first.lowest == Price::MIN) & rise
     }
 }

@@ -1,12 +1,11 @@
 // Records, each written into a lent buffer from a place on; the place behind it (01 "Session file"; K1). The header is the number by which the
 // reader tells the kind, and the fields stand in the order of the layout.
-ghost use Rattle.std.specs.Prelude.{◌≡◌, ◌+◌, ◌≤◌, T, length, drop};
+ghost use Rattle.std.specs.Prelude.{◌≡◌, ◌+◌, ◌≤◌, T, [], ◌∷◌, length};
 ghost use Rattle.lists.specs.Put.{Wrote};
-ghost use Rattle.terms.specs.Bounds.{max_rows};
-ghost use Rattle.terms.specs.Tables.{all_rows};
+ghost use Rattle.terms.specs.Tables.{rows};
 ghost use Rattle.records.specs.Fields.{row_widths, layout_length, kind_length, in_range};
 ghost use Rattle.records.specs.Bytes.{length_of, record_bytes};
-ghost use Rattle.writer.specs.Rows.{later_bytes, row_bytes, rows_bytes, rows_room, RowsWrote};
+ghost use Rattle.writer.specs.Rows.{later_bytes, row_bytes, rows_bytes, rows_room};
 
 use crate::numbers::{put_byte, put_eight, put_four, put_two};
 use records::{Deletion, Kind, Record};
@@ -90,40 +89,25 @@ fn put_quote(out: &mut [u8], at: usize, entry: QuoteEntry) -> usize
     put_four(out, t, ask.limit)
 }
 
-// A row, if it is counted (02 K6).
-fn put_row(out: &mut [u8], at: usize, count: u16, index: u16, row: Row) -> usize
-    requires { at + rows_room count index ≤ length out.old }
-    ensures { RowsWrote out.old out.new at result (row_bytes count index row) count index (index + 1) }
+// A row: its lowest price, then its step (02 K6).
+fn put_row(out: &mut [u8], at: usize, row: Row) -> usize
+    requires { at + layout_length (4 ∷ 4 ∷ []) ≤ length out.old }
+    ensures { Wrote out.old out.new at result (row_bytes row) }
 {
-    if count <= index {
-        return at;
-    }
     let p = put_four(out, at, row.lowest);
     put_four(out, p, row.step)
 }
 
-// The rows behind the fourth: apart, since a proof finds the room of only so many calls by itself.
-fn put_upper_rows(out: &mut [u8], at: usize, table: Table) -> usize
-    requires { at + rows_room table.count 4 ≤ length out.old }
-    ensures { RowsWrote out.old out.new at result (rows_bytes 4 table.count (drop 4 (all_rows table))) table.count 4 max_rows }
-{
-    let count = table.count;
-    let p = put_row(out, at, count, 4, table.fifth);
-    let q = put_row(out, p, count, 5, table.sixth);
-    let r = put_row(out, q, count, 6, table.seventh);
-    put_row(out, r, count, 7, table.eighth)
-}
-
+// Those counted, one behind the other.
 fn put_rows(out: &mut [u8], at: usize, table: Table) -> usize
-    requires { at + rows_room table.count 0 ≤ length out.old }
-    ensures { RowsWrote out.old out.new at result (rows_bytes 0 table.count (all_rows table)) table.count 0 max_rows }
+    requires { at + rows_room table.count ≤ length out.old }
+    ensures { Wrote out.old out.new at result (rows_bytes (rows table)) }
 {
-    let count = table.count;
-    let p = put_row(out, at, count, 0, table.first);
-    let q = put_row(out, p, count, 1, table.second);
-    let r = put_row(out, q, count, 2, table.third);
-    let s = put_row(out, r, count, 3, table.fourth);
-    put_upper_rows(out, s, table)
+    let mut next = at;
+    for row in table.rows.iter().take(usize::from(table.count)) {
+        next = put_row(out, next, *row);
+    }
+    next
 }
 
 // A start by bands (02 K6), of no more rows than a table has. Its length goes by them, so that its header is written as length and kind.

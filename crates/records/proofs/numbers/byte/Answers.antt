@@ -1,8 +1,7 @@
-use Rattle.records.specs.Numbers.{number-one, number_past}
+use Rattle.std.proofs.Common.{rules}
+use Rattle.std.proofs.lemmas.Grind.{common_steps}
+use Rattle.records.specs.Numbers.{number-one}
 use Rattle.records.proofs.numbers.byte.Goals as goal
 
-pub returns-then-at-bytes : goal.returns-then-at-bytes
-returns-then-at-bytes c = number-one _ _
-
-pub returns-else-at-bytes : goal.returns-else-at-bytes
-returns-else-at-bytes c = number_past c.args.bytes.now _ c.if-at-bytes.false
+pub returns : goal.returns
+returns c = rw (← number-one c.args.bytes.now c.args.at) (search (rules, common_steps))

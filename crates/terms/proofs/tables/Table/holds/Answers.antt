@@ -1,5 +1,6 @@
-use Rattle.terms.proofs.TableLaws.{table-holds}
+use Rattle.std.proofs.Common.{arith}
+use Rattle.terms.proofs.TableLaws.{none_left, table-holds}
 use Rattle.terms.proofs.tables.Table.holds.Goals as goal
 
 pub returns : goal.returns
-returns c = table-holds _ c.follows-a.ensures c.follows-b.ensures c.follows-c.ensures c.follows-d.ensures c.follows-e.ensures c.follows-f.ensures c.follows-g.ensures c.follows-h.ensures
+returns c = table-holds c.args.self (omega arith) (none_left _ _ _ c.args.self.rows (omega arith) c.loop-i.invariant)
