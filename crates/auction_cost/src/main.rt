@@ -41,9 +41,7 @@ fn started() -> Session
     };
     let by_rows = asked.as_start();
     let fresh = Session::fresh();
-    let r = calls::start(fresh, by_rows);
-    let session = r.session;
-    session
+    calls::start(fresh, by_rows).session
 }
 
 fn size_of(byte: u8) -> u32
@@ -114,13 +112,9 @@ fn filled(orders: u32, which: u8) -> Session
 {
     let mut session = started();
     let mut x: u32 = 1;
-    let mut i: u32 = 0;
-    while i < orders {
-        let r = calls::order(session, chosen(which, i, orders, x));
-        let next_session = r.session;
-        session = next_session;
+    for i in 0..orders {
+        session = calls::order(session, chosen(which, i, orders, x)).session;
         x = next(x);
-        i += 1;
     }
     session
 }
@@ -134,16 +128,13 @@ fn auctions(session: Session, closing: bool, list: &mut [u32]) -> LastCall
     let day = r.session;
     if closing {
         let s = calls::auction(day, Auction::CLOSING, list);
-        let result = s.result;
-        let closed = s.session;
         return LastCall {
-            result,
-            session: closed,
+            result: s.result,
+            session: s.session,
         };
     }
-    let result = r.result;
     LastCall {
-        result,
+        result: r.result,
         session: day,
     }
 }
@@ -152,38 +143,33 @@ fn auctions(session: Session, closing: bool, list: &mut [u32]) -> LastCall
 fn one_more(session: Session, byte: u8, list: &mut [u32]) -> LastCall
     requires { Sound session }
 {
-    if (byte == b'a') | (byte == b'c') {
-        return auctions(session, byte == b'c', list);
+    match byte {
+        b'a' => auctions(session, false, list),
+        b'c' => auctions(session, true, list),
+        b't' => {
+            let r = calls::theoretical(session, Auction::OPENING);
+            LastCall {
+                result: r.result,
+                session,
+            }
+        }
+        b'q' => {
+            let r = calls::ranked(session, Side::BUY, Auction::OPENING, list);
+            let mut result = no_answer();
+            result.count = r.count;
+            LastCall { result, session }
+        }
+        _ => LastCall {
+            result: no_answer(),
+            session,
+        },
     }
-    if byte == b't' {
-        let r = calls::theoretical(session, Auction::OPENING);
-        let result = r.result;
-        return LastCall { result, session };
-    }
-    let mut result = no_answer();
-    if byte == b'q' {
-        let r = calls::ranked(session, Side::BUY, Auction::OPENING, list);
-        result.count = r.count;
-    }
-    LastCall { result, session }
-}
-
-fn wide(x: u32) -> u64
-    ensures { result ≤ 4294967295 }
-{
-    x as u64
 }
 
 fn sum(numbers: &[u32]) -> u64
     requires { length numbers.now ≤ trade_list_length }
 {
-    let mut total: u64 = 0;
-    let mut i: usize = 0;
-    while i < numbers.len() {
-        total += wide(numbers[i]);
-        i += 1;
-    }
-    total
+    numbers.iter().map(|number| u64::from(*number)).sum()
 }
 
 // A write that fails is passed over.
@@ -199,10 +185,10 @@ fn main(rt: HostRuntime) {
     let mut list = [0u32; Session::TRADE_LIST];
     let last = one_more(session, bytes[2], &mut list);
     let r = last.result;
-    put_number(&rt, r.outcome as u64);
-    put_number(&rt, r.price as u64);
+    put_number(&rt, u64::from(r.outcome));
+    put_number(&rt, u64::from(r.price));
     put_number(&rt, r.quantity);
-    put_number(&rt, r.count as u64);
+    put_number(&rt, u64::from(r.count));
     put_number(&rt, sum(&list));
     let book = last.session.book;
     put_number(&rt, sum(&book.left));

@@ -10,7 +10,6 @@ ghost use Rattle.desk.specs.Sound.{SoundDesk};
 use courses::AuctionAnswer;
 use desk::Desk;
 use session::Session;
-use squares::CELLS;
 use std::io::Read;
 use terms::{Auction, DelayThreshold, Entry, OneStep, QuoteEntry, Side, SideEntry, Validity};
 
@@ -47,9 +46,7 @@ fn started() -> Desk
     };
     let by_rows = asked.as_start();
     let fresh = Desk::fresh();
-    let r = desk::start(fresh, by_rows);
-    let begun = r.desk;
-    begun
+    desk::start(fresh, by_rows).desk
 }
 
 fn size_of(byte: u8) -> u32
@@ -137,64 +134,55 @@ fn filled(orders: u32, which: u8) -> Desk
 {
     let mut desk = started();
     let mut x: u32 = 1;
-    let mut i: u32 = 0;
-    while i < orders {
-        let r = desk::order(desk, chosen(which, i, orders, x));
-        let next_desk = r.desk;
-        desk = next_desk;
+    for i in 0..orders {
+        desk = desk::order(desk, chosen(which, i, orders, x)).desk;
         x = next(x);
-        i += 1;
     }
-    let r = desk::quote(desk, quote_of(10));
-    let last = r.desk;
-    last
+    desk::quote(desk, quote_of(10)).desk
 }
 
 // The call more; an auction writes to the list. Called in two places it stays a function of its own, whose stack tools/stack.sh can watch.
 fn one_more(desk: Desk, byte: u8, list: &mut [u32]) -> LastCall
     requires { SoundDesk desk }
 {
-    if byte == b'a' {
-        let r = desk_auction::auction(desk, Auction::OPENING, list);
-        let result = r.result;
-        let next = r.desk;
-        return LastCall {
-            answer: r.answer,
-            result,
-            desk: next,
-        };
-    }
-    let result = no_answer();
-    if byte == b'o' {
-        let r = desk::order(desk, day_order(LAST, Side::BUY, 10, REFERENCE));
-        let next = r.desk;
-        return LastCall {
-            answer: r.answer,
-            result,
-            desk: next,
-        };
-    }
-    if byte == b'q' {
-        let r = desk::quote(desk, quote_of(20));
-        let next = r.desk;
-        return LastCall {
-            answer: r.answer,
-            result,
-            desk: next,
-        };
-    }
-    if byte == b'c' {
-        let r = desk_auction::auction(desk, Auction::CLOSING, list);
-        return LastCall {
-            answer: r.answer,
-            result,
+    match byte {
+        b'a' => {
+            let r = desk_auction::auction(desk, Auction::OPENING, list);
+            LastCall {
+                answer: r.answer,
+                result: r.result,
+                desk: r.desk,
+            }
+        }
+        b'o' => {
+            let r = desk::order(desk, day_order(LAST, Side::BUY, 10, REFERENCE));
+            LastCall {
+                answer: r.answer,
+                result: no_answer(),
+                desk: r.desk,
+            }
+        }
+        b'q' => {
+            let r = desk::quote(desk, quote_of(20));
+            LastCall {
+                answer: r.answer,
+                result: no_answer(),
+                desk: r.desk,
+            }
+        }
+        b'c' => {
+            let r = desk_auction::auction(desk, Auction::CLOSING, list);
+            LastCall {
+                answer: r.answer,
+                result: no_answer(),
+                desk,
+            }
+        }
+        _ => LastCall {
+            answer: 0,
+            result: no_answer(),
             desk,
-        };
-    }
-    LastCall {
-        answer: 0,
-        result,
-        desk,
+        },
     }
 }
 
@@ -203,7 +191,7 @@ fn cell(desk: Desk, byte: u8, which: u8) -> u64
     requires { SoundDesk desk }
 {
     if byte == b's' {
-        let at = which as usize % 32;
+        let at = usize::from(which) % 32;
         let square = desk::square(desk);
         let row = square[at];
         return row[at];
@@ -211,27 +199,11 @@ fn cell(desk: Desk, byte: u8, which: u8) -> u64
     0
 }
 
-fn wide(x: u32) -> u64 {
-    x as u64
-}
-
-// Modulo 2^64, as the next one.
-fn sum(numbers: &[u32]) -> u64 {
+// Modulo 2^64: of numbers, or of the cells.
+fn sum<T: Copy + Into<u64>>(numbers: &[T]) -> u64 {
     let mut total: u64 = 0;
-    let mut i: usize = 0;
-    while i < numbers.len() {
-        total = total.wrapping_add(wide(numbers[i]));
-        i += 1;
-    }
-    total
-}
-
-fn sum_of_cells(cells: &[u64; CELLS]) -> u64 {
-    let mut total: u64 = 0;
-    let mut i: usize = 0;
-    while i < CELLS {
-        total = total.wrapping_add(cells[i]);
-        i += 1;
+    for number in numbers {
+        total = total.wrapping_add((*number).into());
     }
     total
 }
@@ -242,18 +214,18 @@ fn put_number(rt: &impl Print, n: u64) {
 }
 
 fn put_answer(rt: &impl Print, answer: u8, r: AuctionAnswer) {
-    put_number(rt, answer as u64);
-    put_number(rt, r.outcome as u64);
-    put_number(rt, r.price as u64);
+    put_number(rt, u64::from(answer));
+    put_number(rt, u64::from(r.outcome));
+    put_number(rt, u64::from(r.price));
     put_number(rt, r.quantity);
-    put_number(rt, r.count as u64);
+    put_number(rt, u64::from(r.count));
 }
 
 fn put_desk(rt: &impl Print, desk: Desk) {
     let book = desk.session.book;
     put_number(rt, sum(&book.left));
     let totals = desk.totals;
-    put_number(rt, sum_of_cells(&totals));
+    put_number(rt, sum(&totals));
 }
 
 // What the call answered, the list, the book and the cells are all read at the end: a compiler drops what nobody reads.

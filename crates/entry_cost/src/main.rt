@@ -3,7 +3,6 @@
 // counts the instructions.
 #![tactic(auto)]
 
-ghost use Rattle.std.specs.Prelude.{◌≤◌};
 ghost use Rattle.session.specs.Sound.{Sound};
 
 use calls::Session;
@@ -32,9 +31,7 @@ fn started() -> Session
     };
     let by_rows = asked.as_start();
     let fresh = Session::fresh();
-    let r = calls::start(fresh, by_rows);
-    let session = r.session;
-    session
+    calls::start(fresh, by_rows).session
 }
 
 fn day_buy() -> Entry {
@@ -65,16 +62,10 @@ fn filled() -> Session
     ensures { Sound result }
 {
     let mut session = started();
-    let mut i: u32 = 0;
-    while i < ORDERS {
-        let r = calls::order(session, day_buy());
-        let next = r.session;
-        session = next;
-        i += 1;
+    for _ in 0..ORDERS {
+        session = calls::order(session, day_buy()).session;
     }
-    let r = calls::quote(session, quote_of(10));
-    let last = r.session;
-    last
+    calls::quote(session, quote_of(10)).session
 }
 
 // The one call more. The quote and the order that is deleted stand at late places, nearly the worst case. The new quote has another quantity, which
@@ -82,47 +73,34 @@ fn filled() -> Session
 fn one_more(session: Session, byte: u8) -> LastCall
     requires { Sound session }
 {
-    if byte == b'o' {
-        let r = calls::order(session, day_buy());
-        let next = r.session;
-        return LastCall {
-            answer: r.answer,
-            session: next,
-        };
+    match byte {
+        b'o' => {
+            let r = calls::order(session, day_buy());
+            LastCall {
+                answer: r.answer,
+                session: r.session,
+            }
+        }
+        b'q' => {
+            let r = calls::quote(session, quote_of(20));
+            LastCall {
+                answer: r.answer,
+                session: r.session,
+            }
+        }
+        b'd' => {
+            let r = calls::delete(session, ORDERS, MEMBER);
+            LastCall {
+                answer: r.answer,
+                session: r.session,
+            }
+        }
+        _ => LastCall { answer: 0, session },
     }
-    if byte == b'q' {
-        let r = calls::quote(session, quote_of(20));
-        let next = r.session;
-        return LastCall {
-            answer: r.answer,
-            session: next,
-        };
-    }
-    if byte == b'd' {
-        let r = calls::delete(session, ORDERS, MEMBER);
-        let next = r.session;
-        return LastCall {
-            answer: r.answer,
-            session: next,
-        };
-    }
-    LastCall { answer: 0, session }
-}
-
-fn wide(quantity: u32) -> u64
-    ensures { result ≤ 4294967295 }
-{
-    quantity as u64
 }
 
 fn open_quantity(left: &[u32; Place::COUNT]) -> u64 {
-    let mut sum: u64 = 0;
-    let mut place: usize = 0;
-    while place < Place::COUNT {
-        sum += wide(left[place]);
-        place += 1;
-    }
-    sum
+    left.iter().map(|quantity| u64::from(*quantity)).sum()
 }
 
 // The book is read at the end: a compiler drops what nobody reads. A write that fails is passed over.

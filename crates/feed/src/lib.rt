@@ -19,13 +19,8 @@ fn moved_to_front(bytes: &mut [u8], from: usize, to: usize) -> usize
     requires { (from ≤ to) × (to ≤ length bytes.old) }
     ensures { (result ≡ to - from) × (take result bytes.new ≡ take (to - from) (drop from bytes.old)) }
 {
-    let n = to - from;
-    let mut i: usize = 0;
-    while i < n {
-        bytes[i] = bytes[from + i];
-        i += 1;
-    }
-    n
+    bytes.copy_within(from..to, 0);
+    to - from
 }
 
 // One read into the buffer; how many bytes came. A read that fails ends the input like its end, and the line is said of it.
@@ -68,6 +63,7 @@ pub fn read_full(rt: &impl Input, input: &mut [u8]) -> usize
 {
     let mut reader = rt.reader();
     let mut done: usize = 0;
+    // Not a count by one: each read brings as many bytes as it likes.
     while done < input.len() {
         let count = reader.read(&mut input[done..]).unwrap_or(0);
         if count == 0 {

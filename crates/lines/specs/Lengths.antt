@@ -2,7 +2,7 @@
 use Rattle.std.specs.Prelude.{ℕ, ◌+◌, ◌*◌, ◌≤◌, List, [], ◌∷◌, ◌++◌, length, take}
 use Rattle.std.proofs.Common.{arith, length-append, length-take}
 use Rattle.trades.specs.declared.{Trade.Trade}
-use Rattle.lines.specs.declared.{words.Word.Word, Line.Line}
+use Rattle.lines.specs.declared.{Line.Line}
 use Rattle.text.specs.Text.{most_digits, decimal, space, newline, numeral, numeral_room, texts, trade_word, fault_word, end_word}
 use Rattle.text.specs.Decimal.{decimal-length}
 use Rattle.lines.specs.Line.{numbers_of, numbers, worded, line_of, trade_line, trade_lines, fault_line, end_line}

@@ -1,6 +1,8 @@
 -- The lines of the trades in a lent list, written one by one.
-use Rattle.std.specs.Prelude.{ℕ, zero, suc, ◌+◌, ◌*◌, ◌≤◌, ◌≡◌, refl, List, [], ◌∷◌, ◌++◌, length, get_or}
-use Rattle.std.proofs.Common.{ap, add-one, arith}
+use Rattle.std.specs.Prelude.{ℕ, zero, suc, ◌+◌, ◌*◌, ◌≤◌, ◌<◌, ◌≡◌, refl, List, [], ◌∷◌, ◌++◌, length, get_or, take, drop}
+use Rattle.std.specs.Simd.{first_chunks}
+use Rattle.std.proofs.lemmas.List.{get_or-take}
+use Rattle.std.proofs.Common.{◌∙◌, ap, add-one, add-zero, arith, get_or-drop, drop-drop}
 use Rattle.terms.specs.Bounds.{numbers_per_trade}
 use Rattle.trades.specs.declared.{Trade.Trade}
 use Rattle.trades.specs.Written.{trades_read}
@@ -47,3 +49,23 @@ pub trades-next : (old list out new : List ℕ) (at end r k : ℕ) → at ≤ le
     → WroteTrades old at list out end k → Wrote out new end r (trade_line (trade_at (k * numbers_per_trade) list)) → WroteTrades old at list new r (k + 1)
 trades-next old list out new at end r k room h l s w =
     rw (add-one k, read_next k list h) (all-next trade_line old out new at end r (trades_read k list) (trade_at (k * numbers_per_trade) list) room l s w)
+
+-- the list as the code reads it, in chunks of a trade's numbers
+abbrev pub trade_in : List ℕ → Trade
+trade_in chunk = record { buy = get_or chunk 0 0; sell = get_or chunk 1 0; quantity = get_or chunk 2 0 }
+
+chunk_at : (most i : ℕ) (list : List ℕ) → i < most → get_or (first_chunks numbers_per_trade most list) i [] ≡ take numbers_per_trade (drop (i * numbers_per_trade) list)
+chunk_at zero i list h = absurd (omega arith)
+chunk_at (suc most) zero list h = refl
+chunk_at (suc most) (suc i) list h =
+    let behind : numbers_per_trade + i * numbers_per_trade ≡ suc i * numbers_per_trade = omega arith in
+    chunk_at most i (drop numbers_per_trade list) (omega arith)
+    ∙ ap (take numbers_per_trade) (drop-drop (i * numbers_per_trade) numbers_per_trade list ∙ ap (λ (n : ℕ). drop n list) behind)
+
+number_at : (from j : ℕ) (list : List ℕ) → j < numbers_per_trade → get_or (take numbers_per_trade (drop from list)) j 0 ≡ get_or list (from + j) 0
+number_at from j list h = get_or-take numbers_per_trade (drop from list) j 0 h ∙ get_or-drop from list j 0
+
+pub chunk-trade : (count most i : ℕ) (list : List ℕ) → i < count → i < most → trade_in (get_or (take count (first_chunks numbers_per_trade most list)) i []) ≡ trade_at (i * numbers_per_trade) list
+chunk-trade count most i list h k =
+    let from = i * numbers_per_trade in
+    rw (get_or-take count (first_chunks numbers_per_trade most list) i [] h, chunk_at most i list k, number_at from 0 list (omega arith), number_at from 1 list (omega arith), number_at from 2 list (omega arith), add-zero) refl

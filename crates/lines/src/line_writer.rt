@@ -11,7 +11,7 @@ use crate::words::{Word, put_word, word_numbers};
 use text::{put_byte, put_bytes, put_decimal, put_number};
 use trades::Trade;
 
-const NEWLINE: u8 = 10;
+const NEWLINE: u8 = b'\n';
 
 // Numbers, each behind a space, and the end of the line.
 pub fn put_numbers(out: &mut [u8], at: usize, xs: &[u64]) -> usize
@@ -19,10 +19,8 @@ pub fn put_numbers(out: &mut [u8], at: usize, xs: &[u64]) -> usize
     ensures { Wrote out.old out.new at result (numbers xs.now) }
 {
     let mut end = at;
-    let mut i: usize = 0;
-    while i < xs.len() {
-        end = put_number(out, end, xs[i]);
-        i += 1;
+    for x in xs {
+        end = put_number(out, end, *x);
     }
     put_byte(out, end, NEWLINE)
 }
@@ -60,14 +58,15 @@ pub fn done_line(out: &mut [u8], at: usize, place: u64, word: Word, number: u32)
     ensures { Wrote out.old out.new at result (line_of place (done_line word number)) }
 {
     let p = put_decimal(out, at, place);
+    let told = u64::from(number);
     match word {
         Word::Order => {
             let q = put_bytes(out, p, b" order 0 ");
-            let r = put_decimal(out, q, number as u64);
+            let r = put_decimal(out, q, told);
             put_byte(out, r, NEWLINE)
         }
         Word::Delete => put_bytes(out, p, b" delete 0\n"),
-        _ => put_answer(out, p, Line::numbered(word, 0, number as u64)),
+        _ => put_answer(out, p, Line::numbered(word, 0, told)),
     }
 }
 
@@ -78,8 +77,8 @@ pub fn quote_line(out: &mut [u8], at: usize, place: u64, bid: u32, ask: u32) -> 
 {
     let p = put_decimal(out, at, place);
     let q = put_bytes(out, p, b" quote 0 ");
-    let r = put_decimal(out, q, bid as u64);
-    let s = put_number(out, r, ask as u64);
+    let r = put_decimal(out, q, u64::from(bid));
+    let s = put_number(out, r, u64::from(ask));
     put_byte(out, s, NEWLINE)
 }
 
@@ -88,9 +87,12 @@ fn trade_line(out: &mut [u8], at: usize, buy: u32, sell: u32, quantity: u32) -> 
     requires { at + trade_room ≤ length out.old }
     ensures { Wrote out.old out.new at result (trade_line (record { buy = buy; sell = sell; quantity = quantity })) }
 {
-    let xs = [buy as u64, sell as u64, quantity as u64];
     let p = put_bytes(out, at, b"trade");
-    put_numbers(out, p, &xs)
+    put_numbers(
+        out,
+        p,
+        &[u64::from(buy), u64::from(sell), u64::from(quantity)],
+    )
 }
 
 // The trades that stand in a lent list, four numbers each.
@@ -99,11 +101,9 @@ pub fn trade_lines(out: &mut [u8], at: usize, list: &[u32], count: usize) -> usi
     ensures { Wrote out.old out.new at result (trade_lines (trades_read count list.now)) }
 {
     let mut end = at;
-    let mut k: usize = 0;
-    while k < count {
-        let i = k * Trade::NUMBERS;
-        end = trade_line(out, end, list[i], list[i + 1], list[i + 2]);
-        k += 1;
+    let (trades, _) = list.as_chunks::<{ Trade::NUMBERS }>();
+    for [buy, sell, quantity, _] in &trades[..count] {
+        end = trade_line(out, end, *buy, *sell, *quantity);
     }
     end
 }
@@ -122,7 +122,6 @@ pub fn end_line(out: &mut [u8], at: usize, count: u64) -> usize
     requires { at + end_room ≤ length out.old }
     ensures { Wrote out.old out.new at result (end_line count) }
 {
-    let xs = [count];
     let p = put_bytes(out, at, b"end");
-    put_numbers(out, p, &xs)
+    put_numbers(out, p, &[count])
 }

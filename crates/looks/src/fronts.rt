@@ -5,20 +5,21 @@ ghost use Rattle.feed.specs.HeldBytes.{IsFront};
 ghost use Rattle.session.specs.Sound.{Sound};
 ghost use Rattle.terms.specs.Bounds.{places};
 
+use crate::Page;
 use crate::queues::{ASKED, queue_of};
 use calls::{Session, filled_front};
-use shown::{put_line, wide};
+use shown::put_line;
 use terms::{Auction, Place, Side};
 
 // A large entry is a quantity times 2^40: a quantity has at most 24 bits, so that it fits 64, and two of the largest together don't.
 const LARGE_BITS: u32 = 40;
 
-const LARGEST_TOTAL: u64 = 18_446_744_073_709_551_615;
+const LARGEST_TOTAL: u64 = u64::MAX;
 
 // One less than the sum of as many ones as a list may have.
 const ONES_TOTAL: u64 = Place::COUNT as u64 - 1;
 
-// The answer: 0 or the refusal, how many entries the part has, and its last one.
+// The answer: 0 or the refusal, how many entries the part has, and its last one, 0 where it has none.
 #[derive(Clone, Copy)]
 struct Front {
     answer: u8,
@@ -26,13 +27,13 @@ struct Front {
     last: u64,
 }
 
-// 0 where the part has no entry.
-fn last_of(part: &[u64]) -> u64 {
-    let length = part.len();
-    if length == 0 {
-        return 0;
-    }
-    part[length - 1]
+// What is open of the orders of each side, in rank order.
+#[derive(Clone, Copy)]
+struct Open<'a> {
+    buys: &'a [u32],
+    sells: &'a [u32],
+    ghost few_buys: { length buys.now ≤ places },
+    ghost few_sells: { length sells.now ≤ places },
 }
 
 fn front_of<'a>(buys: &'a [u64], sells: &'a [u64], side: u8, total: u64) -> Front {
@@ -41,20 +42,14 @@ fn front_of<'a>(buys: &'a [u64], sells: &'a [u64], side: u8, total: u64) -> Fron
     Front {
         answer,
         length: part.len(),
-        last: last_of(part),
+        last: part.last().copied().unwrap_or(0),
     }
 }
 
 fn sum(quantities: &[u32]) -> u64
     requires { length quantities.now ≤ places }
 {
-    let mut total: u64 = 0;
-    let mut i: usize = 0;
-    while i < quantities.len() {
-        total += wide(quantities[i]);
-        i += 1;
-    }
-    total
+    quantities.iter().map(|quantity| u64::from(*quantity)).sum()
 }
 
 // The quantities as entries, times a power of two; how many they are.
@@ -62,82 +57,45 @@ fn list_entries(list: &mut [u64], quantities: &[u32], bits: u32) -> usize
     requires { (length quantities.now ≤ length list.old) × (bits < 64) }
     ensures { IsFront result list.new }
 {
-    let mut i: usize = 0;
-    while i < quantities.len() {
-        list[i] = wide(quantities[i]) << bits;
-        i += 1;
+    for (entry, quantity) in list.iter_mut().zip(quantities) {
+        *entry = u64::from(*quantity) << bits;
     }
-    i
+    quantities.len()
 }
 
 // A front of the side's list, asked with the quantities times a power of two.
-fn front_line(
-    rt: &impl Print,
-    out: &mut [u8],
-    at: usize,
-    buys: &[u32],
-    sells: &[u32],
-    bits: u32,
-    side: u8,
-    total: u64,
-) -> usize
-    requires { (at ≤ length out.old) × (length buys.now ≤ places) × (length sells.now ≤ places) × (bits < 64) }
-    ensures { result ≤ length out.old }
+fn front_line(rt: &impl Print, page: &mut Page, open: Open, bits: u32, side: u8, total: u64)
+    requires { bits < 64 }
 {
     let mut buy_entries = [0u64; Place::COUNT];
     let mut sell_entries = [0u64; Place::COUNT];
-    let bids = list_entries(&mut buy_entries, buys, bits);
-    let asks = list_entries(&mut sell_entries, sells, bits);
+    let bids = list_entries(&mut buy_entries, open.buys, bits);
+    let asks = list_entries(&mut sell_entries, open.sells, bits);
     let r = front_of(&buy_entries[..bids], &sell_entries[..asks], side, total);
-    let numbers = [side as u64, total, r.answer as u64, r.length as u64, r.last];
-    put_line(rt, out, at, b"front", &numbers)
+    let numbers = [
+        u64::from(side),
+        total,
+        u64::from(r.answer),
+        r.length as u64,
+        r.last,
+    ];
+    put_line(rt, page, b"front", &numbers);
 }
 
 // The sum of the other side's quantities; for a number that is no side, of the buys'.
-fn total_for(buys: &[u32], sells: &[u32], side: u8) -> u64
-    requires { (length buys.now ≤ places) × (length sells.now ≤ places) }
-{
+fn total_for(open: Open, side: u8) -> u64 {
     if side == Side::BUY {
-        return sum(sells);
+        return sum(open.sells);
     }
-    sum(buys)
+    sum(open.buys)
 }
 
-// .. of a side: with the quantities and the other side's sum, and with large entries and the largest total.
-fn front_lines_of(
-    rt: &impl Print,
-    out: &mut [u8],
-    at: usize,
-    buys: &[u32],
-    sells: &[u32],
-    side: u8,
-) -> usize
-    requires { (at ≤ length out.old) × (length buys.now ≤ places) × (length sells.now ≤ places) }
-    ensures { result ≤ length out.old }
-{
-    let total = total_for(buys, sells, side);
-    let p = front_line(rt, out, at, buys, sells, 0, side, total);
-    front_line(rt, out, p, buys, sells, LARGE_BITS, side, LARGEST_TOTAL)
-}
-
-// .. of each side.
-fn front_lines_with(
-    rt: &impl Print,
-    out: &mut [u8],
-    at: usize,
-    buys: &[u32],
-    sells: &[u32],
-) -> usize
-    requires { (at ≤ length out.old) × (length buys.now ≤ places) × (length sells.now ≤ places) }
-    ensures { result ≤ length out.old }
-{
-    let mut end = at;
-    let mut side: u8 = 0;
-    while side < ASKED {
-        end = front_lines_of(rt, out, end, buys, sells, side);
-        side += 1;
+// .. of each side: with the quantities and the other side's sum, and with large entries and the largest total.
+fn front_lines_with(rt: &impl Print, page: &mut Page, open: Open) {
+    for side in 0..ASKED {
+        front_line(rt, page, open, 0, side, total_for(open, side));
+        front_line(rt, page, open, LARGE_BITS, side, LARGEST_TOTAL);
     }
-    end
 }
 
 // What is open of the resting order with this number, from the place where the book has it.
@@ -146,12 +104,10 @@ fn left_of<'a>(
     numbers: &'a [u32; Place::COUNT],
     left: &'a [u32; Place::COUNT],
 ) -> u32 {
-    let mut place: usize = 0;
-    while place < Place::COUNT {
-        if numbers[place] == number {
-            return left[place];
+    for (rests, open) in numbers.iter().zip(left) {
+        if *rests == number {
+            return *open;
         }
-        place += 1;
     }
     0
 }
@@ -166,12 +122,10 @@ fn list_left<'a>(
     requires { length queue.now ≤ length list.old }
     ensures { IsFront result list.new }
 {
-    let mut i: usize = 0;
-    while i < queue.len() {
-        list[i] = left_of(queue[i], numbers, left);
-        i += 1;
+    for (open, number) in list.iter_mut().zip(queue) {
+        *open = left_of(*number, numbers, left);
     }
-    i
+    queue.len()
 }
 
 // The open quantities of a side in rank order, and how many they are. Every resting order takes part in the closing.
@@ -191,41 +145,32 @@ fn list_open(list: &mut [u32], session: Session, side: u8) -> usize
 }
 
 // The filled fronts of the resting orders.
-pub(crate) fn front_lines(rt: &impl Print, out: &mut [u8], at: usize, session: Session) -> usize
-    requires { Sound session × (at ≤ length out.old) }
-    ensures { result ≤ length out.old }
+pub(crate) fn front_lines(rt: &impl Print, page: &mut Page, session: Session)
+    requires { Sound session }
 {
     let mut buys = [0u32; Place::COUNT];
     let mut sells = [0u32; Place::COUNT];
     let bids = list_open(&mut buys, session, Side::BUY);
     let asks = list_open(&mut sells, session, Side::SELL);
-    front_lines_with(rt, out, at, &buys[..bids], &sells[..asks])
+    let open = Open {
+        buys: &buys[..bids],
+        sells: &sells[..asks],
+    };
+    front_lines_with(rt, page, open);
 }
 
 // A front of the buys alone, whatever the lists hold.
-fn long_line<'a>(
-    rt: &impl Print,
-    out: &mut [u8],
-    at: usize,
-    buys: &'a [u64],
-    sells: &'a [u64],
-) -> usize
-    requires { at ≤ length out.old }
-    ensures { result ≤ length out.old }
-{
+fn long_line<'a>(rt: &impl Print, page: &mut Page, buys: &'a [u64], sells: &'a [u64]) {
     let r = front_of(buys, sells, Side::BUY, ONES_TOTAL);
-    let numbers = [r.answer as u64, r.length as u64];
-    put_line(rt, out, at, b"long", &numbers)
+    let numbers = [u64::from(r.answer), r.length as u64];
+    put_line(rt, page, b"long", &numbers);
 }
 
 // Lists of as many ones as each may have, and either list with one more, which is refused.
-pub(crate) fn long_lines(rt: &impl Print, out: &mut [u8], at: usize) -> usize
-    requires { at ≤ length out.old }
-    ensures { result ≤ length out.old }
-{
+pub(crate) fn long_lines(rt: &impl Print, page: &mut Page) {
     let full = [1u64; Place::COUNT];
     let long = [1u64; Place::COUNT + 1];
-    let p = long_line(rt, out, at, &full, &full);
-    let q = long_line(rt, out, p, &long, &full[..0]);
-    long_line(rt, out, q, &full[..0], &long)
+    long_line(rt, page, &full, &full);
+    long_line(rt, page, &long, &full[..0]);
+    long_line(rt, page, &full[..0], &long);
 }

@@ -1,86 +1,52 @@
-// Text gathered in a lent buffer from its front on and shown at once, not number by number. What puts bytes there answers the place behind them.
+// Text gathered in a buffer that is lent and shown at once, not number by number.
 #![tactic(auto)]
 
-ghost use Rattle.std.specs.Prelude.{◌≤◌, length};
+ghost use Rattle.std.specs.Prelude.{◌≡◌, ◌+◌, ◌≤◌, ◌<◌, [], ◌++◌, length};
+ghost use Rattle.arrayvec.specs.ArrayVec.{array_vec_len};
 
-use itoa::Buffer;
+use arrayvec::ArrayVec;
+use itoa::{Buffer, Integer};
 
-// What is gathered goes to standard output. A write that fails is passed over.
-pub fn show(rt: &impl Print, out: &[u8], at: usize)
-    requires { at ≤ length out.now }
+// What is gathered goes to standard output, and nothing is gathered then. A write that fails is passed over.
+pub fn show<const ROOM: usize>(rt: &impl Print, text: &mut ArrayVec<u8, ROOM>)
+    ensures { text.new.items ≡ [] }
 {
-    let _ = rt.write_all(&out[..at]);
+    let _ = rt.write_all(text.as_slice());
+    text.clear();
 }
 
 // Bytes behind those that are gathered; where there is no room for them both are shown, so that no look is too long.
-pub fn put_bytes(rt: &impl Print, out: &mut [u8], at: usize, bytes: &[u8]) -> usize
-    requires { at ≤ length out.old }
-    ensures { result ≤ length out.old }
+pub fn put_bytes<const ROOM: usize>(rt: &impl Print, text: &mut ArrayVec<u8, ROOM>, bytes: &[u8])
+    ensures gathered { array_vec_len text.old + length bytes.now ≤ ROOM → text.new.items ≡ text.old.items ++ bytes.now }
+    ensures shown { ROOM < array_vec_len text.old + length bytes.now → text.new.items ≡ [] }
 {
-    let room = out.len() - at;
-    if room < bytes.len() {
-        show(rt, out, at);
+    if text.try_extend_from_slice(bytes).is_err() {
+        show(rt, text);
         let _ = rt.write_all(bytes);
-        return 0;
     }
-    let mut i: usize = 0;
-    while i < bytes.len() {
-        out[at + i] = bytes[i];
-        i += 1;
-    }
-    at + bytes.len()
 }
 
-// A number in decimal, behind a space.
-fn put_number(rt: &impl Print, out: &mut [u8], at: usize, n: u64) -> usize
-    requires { at ≤ length out.old }
-    ensures { result ≤ length out.old }
-{
+// Numbers in decimal, each behind a space: of 64 bits, or a queue's order numbers.
+pub fn put_numbers<I: Integer + Copy, const ROOM: usize>(
+    rt: &impl Print,
+    text: &mut ArrayVec<u8, ROOM>,
+    numbers: &[I],
+) {
     let mut digits = Buffer::new();
-    let p = put_bytes(rt, out, at, b" ");
-    put_bytes(rt, out, p, digits.format(n).as_bytes())
-}
-
-// Numbers, each behind a space.
-pub fn put_numbers(rt: &impl Print, out: &mut [u8], at: usize, numbers: &[u64]) -> usize
-    requires { at ≤ length out.old }
-    ensures { result ≤ length out.old }
-{
-    let mut end = at;
-    let mut i: usize = 0;
-    while i < numbers.len() {
-        end = put_number(rt, out, end, numbers[i]);
-        i += 1;
+    for number in numbers {
+        put_bytes(rt, text, b" ");
+        put_bytes(rt, text, digits.format(*number).as_bytes());
     }
-    end
-}
-
-pub fn wide(number: u32) -> u64
-    ensures { result ≤ 4294967295 }
-{
-    number as u64
-}
-
-// .. and the order numbers of a queue.
-pub fn put_order_numbers(rt: &impl Print, out: &mut [u8], at: usize, numbers: &[u32]) -> usize
-    requires { at ≤ length out.old }
-    ensures { result ≤ length out.old }
-{
-    let mut end = at;
-    let mut i: usize = 0;
-    while i < numbers.len() {
-        end = put_number(rt, out, end, wide(numbers[i]));
-        i += 1;
-    }
-    end
 }
 
 // A line of a word and its numbers.
-pub fn put_line(rt: &impl Print, out: &mut [u8], at: usize, word: &[u8], numbers: &[u64]) -> usize
-    requires { at ≤ length out.old }
-    ensures { result ≤ length out.old }
-{
-    let p = put_bytes(rt, out, at, word);
-    let q = put_numbers(rt, out, p, numbers);
-    put_bytes(rt, out, q, b"\n")
+pub fn put_line<const ROOM: usize>(
+    rt: &impl Print,
+    text: &mut ArrayVec<u8, ROOM>,
+    word: &[u8],
+    numbers: &[u64],
+) {
+    put_bytes(rt, text, word);
+    put_numbers(rt, text, numbers);
+    put_bytes(rt, text, b"\n");
 }

@@ -9,21 +9,19 @@ use terms::{Auction, Entry, OneStep, Side, Validity};
 
 const REFERENCE: u32 = 100_000;
 
-// A write that fails is passed over, here and in `put_number`.
-fn put(rt: &impl Print, text: &[u8]) {
-    let _ = rt.write_all(text);
+// A write that fails is passed over, here and wherever a line is printed.
+fn put_line(rt: &impl Print, name: &str, one: u64, other: u64) {
+    let _ = println!(rt; "{name} {one} {other}");
 }
 
-fn put_number(rt: &impl Print, n: u64) {
-    let _ = print!(rt; " {n}");
-}
-
-fn put_answer(rt: &impl Print, r: AuctionAnswer) {
-    put_number(rt, r.outcome as u64);
-    put_number(rt, r.price as u64);
-    put_number(rt, r.quantity);
-    put_number(rt, r.count as u64);
-    put(rt, b"\n");
+fn put_answer(rt: &impl Print, name: &str, r: AuctionAnswer) {
+    let AuctionAnswer {
+        outcome,
+        price,
+        quantity,
+        count,
+    } = r;
+    let _ = println!(rt; "{name} {outcome} {price} {quantity} {count}");
 }
 
 fn started(reference: u32) -> Session
@@ -38,9 +36,7 @@ fn started(reference: u32) -> Session
     };
     let by_rows = asked.as_start();
     let fresh = Session::fresh();
-    let r = calls::start(fresh, by_rows);
-    let session = r.session;
-    session
+    calls::start(fresh, by_rows).session
 }
 
 // Limit 0 means unlimited.
@@ -54,165 +50,135 @@ fn entry(side: u8, validity: u8, quantity: u32, limit: u32) -> Entry {
     }
 }
 
-fn entered(session: Session, side: u8, validity: u8, quantity: u32, limit: u32) -> Session
+fn entered(session: Session, entry: Entry) -> Session
     requires { Sound session }
     ensures { Sound result }
 {
-    let r = calls::order(session, entry(side, validity, quantity, limit));
-    let next = r.session;
-    next
+    calls::order(session, entry).session
 }
 
-fn bought(session: Session, quantity: u32, limit: u32) -> Session
+// With an order for the day.
+fn resting(session: Session, side: u8, quantity: u32, limit: u32) -> Session
     requires { Sound session }
     ensures { Sound result }
 {
-    entered(session, Side::BUY, Validity::DAY, quantity, limit)
-}
-
-fn sold(session: Session, quantity: u32, limit: u32) -> Session
-    requires { Sound session }
-    ensures { Sound result }
-{
-    entered(session, Side::SELL, Validity::DAY, quantity, limit)
+    entered(session, entry(side, Validity::DAY, quantity, limit))
 }
 
 // A session with one buy and one sell.
 fn two(buy: u32, buy_limit: u32, sell: u32, sell_limit: u32) -> Session
     ensures { Sound result }
 {
-    let session = bought(started(REFERENCE), buy, buy_limit);
-    sold(session, sell, sell_limit)
+    let session = resting(started(REFERENCE), Side::BUY, buy, buy_limit);
+    resting(session, Side::SELL, sell, sell_limit)
 }
 
 // An auction; its four numbers end the line.
-fn held(rt: &impl Print, session: Session, which: u8, list: &mut [u32]) -> Session
+fn held(rt: &impl Print, name: &str, session: Session, which: u8, list: &mut [u32]) -> Session
     requires { Sound session }
     ensures { Sound result }
 {
     let r = calls::auction(session, which, list);
-    put_answer(rt, r.result);
-    let next = r.session;
-    next
+    put_answer(rt, name, r.result);
+    r.session
 }
 
-fn opened(rt: &impl Print, session: Session) -> Session
+fn opened(rt: &impl Print, name: &str, session: Session) -> Session
     requires { Sound session }
     ensures { Sound result }
 {
     let mut list = [0u32; Session::TRADE_LIST];
-    held(rt, session, Auction::OPENING, &mut list)
+    held(rt, name, session, Auction::OPENING, &mut list)
 }
 
 // What an order alone in the book is answered.
 fn answered(quantity: u32, limit: u32) -> u64 {
     let session = started(REFERENCE);
     let r = calls::order(session, entry(Side::BUY, Validity::DAY, quantity, limit));
-    r.answer as u64
-}
-
-fn put_answers(rt: &impl Print, one: u64, other: u64) {
-    put_number(rt, one);
-    put_number(rt, other);
-    put(rt, b"\n");
+    u64::from(r.answer)
 }
 
 fn controls(rt: &impl Print) {
-    put(rt, b"P1");
-    put_answers(rt, answered(1, 899_900), answered(1, 900_000));
-    put(rt, b"P2");
-    put_answers(rt, answered(1, 11_200), answered(1, 11_100));
-    put(rt, b"P3");
-    put_answers(
+    put_line(rt, "P1", answered(1, 899_900), answered(1, 900_000));
+    put_line(rt, "P2", answered(1, 11_200), answered(1, 11_100));
+    put_line(
         rt,
+        "P3",
         answered(5_000_000, 200_000),
         answered(4_999_999, 200_000),
     );
-    put(rt, b"P4");
-    put_answers(rt, answered(10_000_000, 0), answered(9_999_999, 0));
+    put_line(rt, "P4", answered(10_000_000, 0), answered(9_999_999, 0));
 }
 
 fn prices(rt: &impl Print) {
-    put(rt, b"P5");
-    opened(rt, two(100, 100_500, 100, 99_500));
-    put(rt, b"P6");
-    opened(rt, two(100, 100_500, 60, 99_500));
-    put(rt, b"P6");
-    opened(rt, two(60, 100_500, 100, 99_500));
-    put(rt, b"P7");
-    opened(rt, two(50, 0, 50, 0));
-    put(rt, b"P8");
-    opened(rt, two(50, 0, 30, 100_200));
-    put(rt, b"P8");
-    opened(rt, two(30, 0, 30, 100_200));
+    opened(rt, "P5", two(100, 100_500, 100, 99_500));
+    opened(rt, "P6", two(100, 100_500, 60, 99_500));
+    opened(rt, "P6", two(60, 100_500, 100, 99_500));
+    opened(rt, "P7", two(50, 0, 50, 0));
+    opened(rt, "P8", two(50, 0, 30, 100_200));
+    opened(rt, "P8", two(30, 0, 30, 100_200));
 }
 
 // P9's book.
 fn four(reference: u32) -> Session
     ensures { Sound result }
 {
-    let one = bought(started(reference), 100, 100_400);
-    let both = bought(one, 20, 100_200);
-    let three = sold(both, 100, 99_800);
-    sold(three, 20, 100_400)
+    let one = resting(started(reference), Side::BUY, 100, 100_400);
+    let both = resting(one, Side::BUY, 20, 100_200);
+    let three = resting(both, Side::SELL, 100, 99_800);
+    resting(three, Side::SELL, 20, 100_400)
 }
 
 fn ties(rt: &impl Print) {
-    put(rt, b"P9");
-    opened(rt, four(REFERENCE));
-    put(rt, b"P9");
-    opened(rt, four(101_000));
+    opened(rt, "P9", four(REFERENCE));
+    opened(rt, "P9", four(101_000));
 }
 
 fn delays(rt: &impl Print) {
-    put(rt, b"P10");
-    let delayed = opened(rt, two(10, 101_500, 10, 101_500));
-    put(rt, b"P10");
-    opened(rt, delayed);
-    put(rt, b"P10");
-    opened(rt, two(10, 101_400, 10, 101_400));
+    let delayed = opened(rt, "P10", two(10, 101_500, 10, 101_500));
+    opened(rt, "P10", delayed);
+    opened(rt, "P10", two(10, 101_400, 10, 101_400));
 }
 
-fn put_resting(rt: &impl Print, session: Session, side: u8)
+// How many orders rest on a side.
+fn left(session: Session, side: u8) -> u64
     requires { Sound session }
 {
     let mut list = [0u32; Session::QUEUE_LIST];
     let r = calls::ranked(session, side, Auction::CLOSING, &mut list);
-    put_number(rt, r.count as u64);
+    u64::from(r.count)
 }
 
 // The at-the-close order waits for the closing; both sides of the book are empty after it.
 fn at_close(rt: &impl Print) {
-    let buy = entered(started(REFERENCE), Side::BUY, Validity::AT_CLOSE, 50, 0);
-    let session = sold(buy, 30, 100_200);
-    put(rt, b"opening");
-    let day = opened(rt, session);
-    put(rt, b"closing");
+    let buy = entered(
+        started(REFERENCE),
+        entry(Side::BUY, Validity::AT_CLOSE, 50, 0),
+    );
+    let session = resting(buy, Side::SELL, 30, 100_200);
+    let day = opened(rt, "opening", session);
     let mut list = [0u32; Session::TRADE_LIST];
-    let closed = held(rt, day, Auction::CLOSING, &mut list);
-    put(rt, b"resting");
-    put_resting(rt, closed, Side::BUY);
-    put_resting(rt, closed, Side::SELL);
-    put(rt, b"\n");
+    let closed = held(rt, "closing", day, Auction::CLOSING, &mut list);
+    put_line(
+        rt,
+        "resting",
+        left(closed, Side::BUY),
+        left(closed, Side::SELL),
+    );
 }
 
 fn put_trade(rt: &impl Print, buy: u32, sell: u32, quantity: u32) {
-    put(rt, b"trade");
-    put_number(rt, buy as u64);
-    put_number(rt, sell as u64);
-    put_number(rt, quantity as u64);
-    put(rt, b"\n");
+    let _ = println!(rt; "trade {buy} {sell} {quantity}");
 }
 
 // The worked input: the trades as the list has them.
 fn worked(rt: &impl Print) {
-    let one = bought(started(REFERENCE), 50, 100_200);
-    let both = bought(one, 50, 100_400);
-    let three = bought(both, 50, 100_200);
-    let session = sold(three, 80, 100_200);
+    let one = resting(started(REFERENCE), Side::BUY, 50, 100_200);
+    let both = resting(one, Side::BUY, 50, 100_400);
+    let three = resting(both, Side::BUY, 50, 100_200);
+    let session = resting(three, Side::SELL, 80, 100_200);
     let mut list = [0u32; Session::TRADE_LIST];
-    put(rt, b"auction");
-    held(rt, session, Auction::OPENING, &mut list);
+    held(rt, "auction", session, Auction::OPENING, &mut list);
     put_trade(rt, list[0], list[1], list[2]);
     put_trade(rt, list[4], list[5], list[6]);
 }
@@ -222,8 +188,7 @@ fn main(rt: HostRuntime) {
     prices(&rt);
     ties(&rt);
     delays(&rt);
-    put(&rt, b"empty");
-    opened(&rt, started(REFERENCE));
+    opened(&rt, "empty", started(REFERENCE));
     at_close(&rt);
     worked(&rt);
 }

@@ -5,9 +5,9 @@ ghost use Rattle.std.specs.Prelude.{◌≡◌, ◌∷◌, [], ◌+◌, ◌≤◌
 ghost use Rattle.text.specs.Text.{most_digits, decimal, digit, pair, space, numeral_room};
 ghost use Rattle.lists.specs.Put.{Wrote};
 
-const SPACE: u8 = 32;
+const SPACE: u8 = b' ';
 
-const ZERO: u8 = 48;
+const ZERO: u8 = b'0';
 
 const BASE: u64 = 10;
 
@@ -23,12 +23,9 @@ pub fn put_bytes(out: &mut [u8], at: usize, word: &[u8]) -> usize
     requires { at + length word.now ≤ length out.old }
     ensures { Wrote out.old out.new at result word.now }
 {
-    let mut i: usize = 0;
-    while i < word.len() {
-        out[at + i] = word[i];
-        i += 1;
-    }
-    at + word.len()
+    let end = at + word.len();
+    out[at..end].copy_from_slice(word);
+    end
 }
 
 // How many digits a number has.
@@ -50,10 +47,8 @@ fn put_digits(out: &mut [u8], at: usize, x: u64) -> usize
     ensures { Wrote out.old out.new at result (decimal x) }
 {
     let n = count_digits(x);
-    let mut i = n;
     let mut rest = x;
-    while i > 0 {
-        i -= 1;
+    for i in (0..n).rev() {
         out[at + i] = ZERO + (rest % BASE) as u8;
         rest = rest / BASE;
     }

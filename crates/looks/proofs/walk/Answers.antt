@@ -25,7 +25,7 @@ read-further bytes place {r} {next} e = go (record_at bytes place) refl where
       absurd (omega arith)
 
 pub loop-record-init : goal.loop-record-init
-loop-record-init g c = (subst Sound (sym c.fresh-session.ensures) fresh-sound, omega arith, omega arith, refl)
+loop-record-init g c = (subst Sound (sym c.fresh-session.ensures) fresh-sound, omega arith, omega arith)
 
 pub loop-record-smaller : goal.loop-record-smaller
 loop-record-smaller g c = omega (arith, read-further _ _ c.in-Record.ensures)
@@ -33,4 +33,4 @@ loop-record-smaller g c = omega (arith, read-further _ _ c.in-Record.ensures)
 pub loop-record-preserved : goal.loop-record-preserved
 loop-record-preserved g c =
     let f = read-further _ _ c.in-Record.ensures in
-    (c.carried_out-later.ensures, f.1, omega (arith, f), c.look_before.auto.out ∙ c.loop-record.invariant.3)
+    (c.carried_out-session.ensures, f.1, omega (arith, f))

@@ -1,5 +1,4 @@
-use Rattle.text.specs.Decimal.{Counted, counted_start, counted_step, counted-end}
-use native.Mathlib.Omega.{arith}
+use Rattle.text.specs.Decimal.{counted_step, counted-end}
 use Rattle.text.proofs.count_digits.Goals as goal
 
 pub loop-rest-preserved : goal.loop-rest-preserved

@@ -1,6 +1,5 @@
 -- Invariant: `Counted`, the digits taken off and those still to be counted.
-use Rattle.text.specs.Decimal.{Counted, counted_start, counted_step, counted-end}
-use native.Mathlib.Omega.{arith}
+use Rattle.text.specs.Decimal.{Counted}
 use Rattle.text.proofs.count_digits.Given as goal
 
 abbrev pub invariant-loop-rest : goal.invariant-loop-rest

@@ -1,7 +1,6 @@
 -- One write.
 use Rattle.lists.specs.Put.{put-set}
 use native.Mathlib.Omega.{arith}
-use borrow.Author.Rules.{rules}
 use Rattle.text.proofs.put_byte.Goals as goal
 
 pub returns : goal.returns

@@ -1,18 +1,10 @@
-use Prim.Native.Nat.{◌-◌, ◌≤◌}
-use mathlib.Core.Path.{◌≡◌, refl, ◌∙◌}
-use lib.ListN.{length, length-set}
-use lib.Seq.{paste, paste-zero}
-use Rattle.lists.specs.Put.{paste-next, put-pasted}
-use borrow.Author.Rules.{rules}
-use native.Mathlib.Omega.{arith}
+-- The word copied into its part of the buffer.
+use Rattle.std.proofs.Common.{refl, ◌∙◌, arith, length}
+use Rattle.std.proofs.lemmas.Slice.{put_mid-paste}
+use Rattle.lists.specs.Put.{put-pasted}
 use Rattle.text.proofs.put_bytes.Goals as goal
 
-pub loop-i-preserved : goal.loop-i-preserved
-loop-i-preserved c = (
-  omega arith,
-  simp length-set c.loop-i.invariant.1,
-  rw c.loop-i.invariant.2 (paste-next c.args.out.now c.args.at c.args.word.now c.loop-i.i (omega (arith, c.requires)) (omega arith)),
-)
-
 pub returns : goal.returns
-returns c = (omega arith, c.loop-i.invariant.2 ∙ put-pasted c.args.out.now c.args.at c.args.word.now c.loop-i.i (omega arith))
+returns c =
+    let word = c.args.word.now in
+    (refl, put_mid-paste _ _ c.args.out.now _ word (length word) c.copy_from_slice.ensures.after (omega arith) refl ∙ put-pasted c.args.out.now c.args.at word (length word) refl)

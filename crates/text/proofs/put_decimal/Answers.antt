@@ -4,7 +4,6 @@ use mathlib.Core.List.{[], ◌∷◌}
 use Rattle.text.specs.Text.{digit, pair}
 use Rattle.text.specs.Decimal.{digits-small, digits-pair, hundreds-then}
 use native.Mathlib.Omega.{arith}
-use borrow.Author.Rules.{rules}
 use Rattle.text.proofs.put_decimal.Goals as goal
 
 pub returns-then-x-lt10 : goal.returns-then-x-lt10

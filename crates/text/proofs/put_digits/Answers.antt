@@ -1,6 +1,5 @@
 use Prim.Native.Nat.{◌-◌}
-use Rattle.text.specs.Decimal.{decimal-length, Shown, shown-start, shown-step, shown-end}
-use borrow.Author.Rules.{rules}
+use Rattle.text.specs.Decimal.{decimal-length, shown-start, shown-step}
 use native.Mathlib.Omega.{arith}
 use Rattle.text.proofs.put_digits.Goals as goal
 

@@ -1,6 +1,5 @@
 -- A space, then the digits.
 use native.Mathlib.Omega.{arith}
-use borrow.Author.Rules.{rules}
 use mathlib.Core.List.{[], ◌∷◌}
 use Rattle.text.specs.Text.{space, decimal}
 use Rattle.lists.specs.Put.{put_then}

@@ -4,7 +4,6 @@ use Prim.Native.Nat.{◌/◌, ◌%◌}
 use Rattle.text.specs.Text.{digit}
 use Rattle.lists.specs.Put.{put_then}
 use native.Mathlib.Omega.{arith}
-use borrow.Author.Rules.{rules}
 use Rattle.text.proofs.put_pair.Goals as goal
 
 pub returns : goal.returns

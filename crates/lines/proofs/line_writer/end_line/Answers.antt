@@ -4,7 +4,6 @@ use Rattle.text.specs.Text.{end_word}
 use Rattle.lines.specs.Line.{numbers}
 use Rattle.lists.specs.Put.{put_then}
 use native.Mathlib.Omega.{arith}
-use borrow.Author.Rules.{rules}
 use Rattle.lines.proofs.line_writer.end_line.Goals as goal
 
 pub returns : goal.returns

@@ -6,7 +6,6 @@ use Rattle.lines.specs.Line.{worded}
 use Rattle.lists.specs.Put.{put_then}
 use Rattle.lines.specs.Placed.{short-then}
 use native.Mathlib.Omega.{arith}
-use borrow.Author.Rules.{rules}
 use Rattle.lines.proofs.line_writer.fault_line.Goals as goal
 
 pub put_bytes-requires : goal.put_bytes-requires

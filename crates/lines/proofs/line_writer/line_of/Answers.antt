@@ -1,6 +1,5 @@
 -- The place, and what stands behind it.
 use native.Mathlib.Omega.{arith}
-use borrow.Author.Rules.{rules}
 use Rattle.text.specs.Text.{decimal}
 use Rattle.text.specs.Decimal.{decimal-length}
 use Rattle.lines.specs.Line.{answer_text}

@@ -1,10 +1,6 @@
 -- The word; then the answer, and as many numbers as the word has.
-use Prim.Native.Nat.{◌≤◌}
 use native.Mathlib.Omega.{arith}
-use borrow.Author.Rules.{rules}
-use lib.ListN.{length-take}
 use Rattle.lines.specs.Placed.{answered-then}
-use Rattle.lines.specs.Words.{word-length, most_numbers, word-numbers}
 use Rattle.lines.proofs.line_writer.put_answer.Goals as goal
 use Rattle.lines.proofs.line_writer.put_answer.Goals.{After-word_numbers-n}
 

@@ -1,15 +1,6 @@
--- Invariant: `WroteTrades`, the first k trades are written.
-use Prim.Native.Nat.{◌-◌, ◌≤◌}
-use mathlib.Core.Path.{◌≡◌}
-use native.Mathlib.Omega.{arith}
-use borrow.Author.Rules.{rules}
-use Rattle.lines.specs.TradeLines.{WroteTrades, trades-within, trades-next}
-use Rattle.lines.specs.OneByOne.{all_none}
-use Rattle.lines.specs.Line.{trade_line}
+-- Invariant: `WroteTrades`, the trades so far are written.
+use Rattle.lines.specs.TradeLines.{WroteTrades}
 use Rattle.lines.proofs.line_writer.trade_lines.Given as goal
 
-abbrev pub invariant-loop-k : goal.invariant-loop-k
-invariant-loop-k l = (l.k ≤ l.count) × WroteTrades l.initial.out l.at l.list l.out l.end l.k
-
-abbrev pub decreases-loop-k : goal.decreases-loop-k
-decreases-loop-k l = l.count - l.k
+abbrev pub invariant-loop-buy : goal.invariant-loop-buy
+invariant-loop-buy l = WroteTrades l.initial.out l.at l.list l.out l.end l.buy-index

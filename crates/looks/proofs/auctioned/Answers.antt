@@ -1,8 +1,0 @@
-use Rattle.std.proofs.Common.{sym, subst}
-use Rattle.session.specs.Sound.{Sound}
-use Rattle.answers.specs.Auctions.{AuctionLeaves}
-use Rattle.answers.proofs.SoundAfter.{auctioned-sound}
-use Rattle.looks.proofs.auctioned.Goals as goal
-
-pub returns : goal.returns
-returns c = subst (λ (r : AuctionLeaves). Sound r.returned.session) (sym c.auction-r.ensures) (auctioned-sound _ _ _ c.requires)

@@ -1,8 +1,0 @@
-use Rattle.std.proofs.Common.{sym, subst}
-use Rattle.session.specs.Sound.{Sound}
-use Rattle.quotation.specs.QuoteSound.{quoted-sound}
-use Rattle.quotation.specs.declared.Quoted.{Quoted}
-use Rattle.looks.proofs.quoted.Goals as goal
-
-pub returns : goal.returns
-returns c = subst (λ (r : Quoted). Sound r.session) (sym c.quote-r.ensures) (quoted-sound _ _ c.requires)
