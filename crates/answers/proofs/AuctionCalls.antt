@@ -1,6 +1,6 @@
 -- The auction from what its code learns on the way, for the promise of `auction`; the outcome and the trades counted also for the theoretical answer.
 use Prim.Native.Nat.{ℕ, zero, suc, ◌*◌, ◌≤◌}
-use Rattle.std.specs.Prelude.{Bool, true, ◌≢◌, ◌≡◌, List, [], ◌++◌, leb, length, take, drop}
+use Rattle.std.specs.Prelude.{Bool, true, ◌≡◌, List, [], ◌++◌, leb, length, take, drop}
 use Rattle.std.proofs.Math.Bool.{false}
 use Rattle.std.proofs.Common.{true≢false, sym, ◌∙◌, arith, ltb-false}
 use Rattle.std.proofs.Math.Path.{refl, ap}
@@ -8,7 +8,6 @@ use Rattle.lists.specs.Tests.{tests, and_both}
 use Rattle.lists.specs.Sums.{◌∈◌, counted, counted-le, sum_bound}
 use Rattle.terms.specs.Bounds.{places, trade_list_length, min_quantity, max_quantity}
 use Rattle.terms.specs.Orders.{Resting, auction_from}
-use Rattle.terms.specs.declared.kinds.{Price.Price}
 use Rattle.terms.specs.declared.orders.{Side.Side, Side.TheVariants.Buy, Side.TheVariants.Sell, Auction.Auction}
 use Rattle.book.specs.declared.Book.{Book}
 use Rattle.book.specs.Resting.{resting}
@@ -25,7 +24,7 @@ use Rattle.trades.specs.Trades.{volume}
 use Rattle.trades.specs.TradesOf.{trades_of}
 use Rattle.trades.proofs.TradesOf.{trades-none, trades-volume, trades-count}
 use Rattle.auction.specs.declared.trading.{Closed.Closed}
-use Rattle.auction.specs.Outcome.{outcome, trades, price_answered, quantity_answered}
+use Rattle.auction.specs.Outcome.{trades, price_answered, quantity_answered}
 use Rattle.auction.proofs.OutcomeLaws.{outcome-traded}
 use Rattle.auction.specs.Trading.{ranks_on, outcome_in, trades_in, rests_in}
 use Rattle.auction.proofs.TradingLaws.{ranks-few}
@@ -33,17 +32,16 @@ use Rattle.auction.proofs.OutcomeIn.{outcome-in}
 use Rattle.auction.proofs.TradesIn.{trades-in, rests-in}
 use Rattle.trades.specs.Written.{quadruples}
 use Rattle.session.specs.declared.{Session.Session}
-use Rattle.controls.specs.Phases.{phase_after}
 use Rattle.refusals.specs.Checks.{Check, first_hit, answered_by}
 use Rattle.refusals.specs.Exactly.{clear}
 use Rattle.session.specs.Sound.{legal_price, legal-in-range, Sound, number-room}
-use Rattle.session.specs.State.{with_book, passed_on, delay_given, part}
+use Rattle.session.specs.State.{with_book, delay_given, part}
 use Rattle.courses.specs.declared.{AuctionAnswer.AuctionAnswer, Course.Course, Course.TheVariants.Refused, Course.TheVariants.TakesPlace, Plan.Plan, Standing.Standing}
 use Rattle.answers.proofs.SoundAfter.{traded-price}
 use Rattle.courses.specs.Held.{preventable, delayable}
 use Rattle.courses.specs.Answer.{answer_with, answer_of}
 use Rattle.courses.specs.Course.{course_of, takes_place, answer_by, result_by, Priced, standing_by, Planned}
-use Rattle.answers.specs.Auctions.{held_by, outcome_of, auction_checks, AuctionLeaves, auction_leaves, auction_refused, auction_done, auctioned}
+use Rattle.answers.specs.Auctions.{held_by, outcome_of, auction_checks, auction_leaves, auction_refused, auction_done, auctioned}
 use Rattle.answers.specs.AuctionCalls.{closed_by, leaves_as, leaves_by, settled_by, trades_by}
 
 module _ (s : Session) (sound : Sound s) (a : Auction) where

@@ -1,48 +1,19 @@
 -- The auction from what its code learns on the way, for the promise of `auction`; the outcome and the trades counted also for the theoretical answer.
-use Prim.Native.Nat.{ℕ, zero, suc, ◌*◌, ◌≤◌}
-use Rattle.std.specs.Prelude.{Bool, true, ◌≢◌, ◌≡◌, List, [], ◌++◌, leb, length, take, drop}
-use Rattle.std.proofs.Math.Bool.{false}
-use Rattle.std.proofs.Common.{true≢false, sym, ◌∙◌, arith, ltb-false}
-use Rattle.std.proofs.Math.Path.{refl, ap}
-use Rattle.lists.specs.Tests.{tests, and_both}
-use Rattle.lists.specs.Sums.{◌∈◌, counted, counted-le, sum_bound}
-use Rattle.terms.specs.Bounds.{places, trade_list_length, min_quantity, max_quantity}
-use Rattle.terms.specs.Orders.{Resting, auction_from}
+use Prim.Native.Nat.{ℕ}
+use Rattle.std.specs.Prelude.{List}
 use Rattle.terms.specs.declared.kinds.{Price.Price}
-use Rattle.terms.specs.declared.orders.{Side.Side, Side.TheVariants.Buy, Side.TheVariants.Sell, Auction.Auction}
+use Rattle.terms.specs.declared.orders.{Side.TheVariants.Buy, Side.TheVariants.Sell, Auction.Auction}
 use Rattle.book.specs.declared.Book.{Book}
-use Rattle.book.specs.Resting.{resting}
-use Rattle.book.specs.ByPlace.{resting-length}
 use Rattle.places.specs.Places.{behind_taken}
 use Rattle.book.specs.Settling.{settled_to}
-use Rattle.queue.proofs.Part.{taking_part-elim, taking_part-length, taking_part-distinct}
-use Rattle.queue.proofs.Reach.{resting-sound, resting-distinct}
-use Rattle.price.specs.Interest.{accepts, interest}
-use Rattle.price.proofs.Interest.{executable-within}
 use Rattle.trades.specs.declared.{Trade.Trade}
-use Rattle.auction.specs.declared.{Outcome.Outcome, Outcome.TheVariants.Traded, Outcome.TheVariants.NoTrade, Outcome.TheVariants.NonOpening, Outcome.TheVariants.Delayed}
-use Rattle.trades.specs.Trades.{volume}
-use Rattle.trades.specs.TradesOf.{trades_of}
-use Rattle.trades.proofs.TradesOf.{trades-none, trades-volume, trades-count}
-use Rattle.auction.specs.declared.trading.{Closed.Closed}
-use Rattle.auction.specs.Outcome.{outcome, trades, price_answered, quantity_answered}
-use Rattle.auction.proofs.OutcomeLaws.{outcome-traded}
-use Rattle.auction.specs.Trading.{ranks_on, outcome_in, trades_in, rests_in}
-use Rattle.auction.proofs.TradingLaws.{ranks-few}
-use Rattle.auction.proofs.OutcomeIn.{outcome-in}
-use Rattle.auction.proofs.TradesIn.{trades-in, rests-in}
-use Rattle.trades.specs.Written.{quadruples}
+use Rattle.auction.specs.Trading.{ranks_on, trades_in, rests_in}
 use Rattle.session.specs.declared.{Session.Session}
 use Rattle.controls.specs.Phases.{phase_after}
-use Rattle.refusals.specs.Checks.{Check, first_hit, answered_by}
-use Rattle.refusals.specs.Exactly.{clear}
-use Rattle.session.specs.Sound.{legal_price, legal-in-range, Sound, number-room}
-use Rattle.session.specs.State.{with_book, passed_on, delay_given, part}
-use Rattle.courses.specs.declared.{AuctionAnswer.AuctionAnswer, Course.Course, Course.TheVariants.Refused, Course.TheVariants.TakesPlace, Plan.Plan, Standing.Standing}
-use Rattle.courses.specs.Held.{preventable, delayable}
-use Rattle.courses.specs.Answer.{answer_with, answer_of}
-use Rattle.courses.specs.Course.{course_of, takes_place, answer_by, result_by, Priced, standing_by, Planned}
-use Rattle.answers.specs.Auctions.{held_by, outcome_of, auction_checks, AuctionLeaves, auction_leaves, auction_refused, auction_done, auctioned}
+use Rattle.session.specs.State.{passed_on}
+use Rattle.courses.specs.declared.{AuctionAnswer.AuctionAnswer, Course.Course, Standing.Standing}
+use Rattle.courses.specs.Course.{answer_by, result_by, standing_by}
+use Rattle.answers.specs.Auctions.{AuctionLeaves, auction_leaves}
 
 -- the trades of a quantity and the book after them, told by the ranks of the session's book
 abbrev pub trades_by : Session → Auction → ℕ → List Trade

@@ -1,6 +1,6 @@
 -- Order and quote of a desk from what their code learns on the way: the effect decides, and an accepted entry is no thirty-third member's.
-use Rattle.std.specs.Prelude.{ℕ, ◌+◌, ◌<◌, Bool, true, false, ◌≡◌, refl, List, leb, set, length}
-use Rattle.std.proofs.Common.{sym, ap, ◌∙◌, leb-false, length-take-le, arith}
+use Rattle.std.specs.Prelude.{ℕ, ◌+◌, ◌<◌, false, ◌≡◌, refl, List, leb, set, length}
+use Rattle.std.proofs.Common.{ap, ◌∙◌, leb-false, length-take-le, arith}
 use Rattle.terms.specs.Bounds.{places}
 use Rattle.terms.specs.Orders.{order_from}
 use Rattle.terms.specs.Quotes.{quote_from}

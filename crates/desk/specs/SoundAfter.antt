@@ -1,5 +1,5 @@
 -- A fresh desk is sound, and start, order, quote and delete hand SoundDesk on (A3, K5).
-use Rattle.std.specs.Prelude.{ℕ, zero, suc, ◌≤◌, ◌<◌, Bool, true, false, ◌≡◌, refl, List, length, get_or, set, replicate}
+use Rattle.std.specs.Prelude.{ℕ, zero, suc, ◌≤◌, ◌<◌, Bool, false, ◌≡◌, refl, List, length, get_or, set, replicate}
 use Rattle.std.proofs.Common.{true≢false, sym, ap, subst, ◌∙◌, arith, leb-false, length-set}
 use Rattle.std.proofs.lemmas.List.{length-replicate}
 use Rattle.terms.specs.Bounds.{places}

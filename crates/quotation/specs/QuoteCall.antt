@@ -1,5 +1,5 @@
 -- A quote as the code computes it: from where the old sides stand, the new ones put in their stead, column by column.
-use Rattle.std.specs.Prelude.{ℕ, ◌+◌, ◌<◌, Bool, true, refl}
+use Rattle.std.specs.Prelude.{ℕ, ◌+◌, ◌<◌, Bool, refl}
 use Rattle.std.proofs.Math.Bool.{false}
 use Rattle.std.proofs.Math.Path.{◌≡◌, subst}
 use Rattle.std.proofs.Common.{sym, ap, ◌∙◌, arith, lt-ltb}
@@ -13,7 +13,7 @@ use Rattle.places.specs.Places.{lowest_free, is_short, marked_at}
 use Rattle.book.specs.declared.{Book.Book}
 use Rattle.quotes.specs.declared.{Pair.Pair}
 use Rattle.book.specs.Columns.{stored}
-use Rattle.quotes.specs.Quotes.{quote_places, without_pair, quote_place_in, requoted, requoted_words, requoted_book}
+use Rattle.quotes.specs.Quotes.{quote_places, quote_place_in, requoted, requoted_words, requoted_book}
 use Rattle.quotes.specs.Without.{quote-place-in, without-taken, requoted-stored}
 use Rattle.refusals.specs.Checks.{Check, first_hit, answered, answered-refused, answered-done, answered-cases}
 use Rattle.refusals.specs.Rows.{quote_rows}
@@ -25,7 +25,7 @@ use Rattle.session.specs.State.{with_book}
 use Rattle.session.specs.Sound.{legal_price, Sound}
 use Rattle.quotation.specs.declared.{Quoted.Quoted}
 use Rattle.entries.specs.Entry.{control_reference}
-use Rattle.quotation.specs.Quote.{book_without, quote_checks, bid_entered, ask_entered, bid_place, book_with_bid, ask_place, quote_refused, quote_done, quoted}
+use Rattle.quotation.specs.Quote.{book_without, bid_entered, ask_entered, bid_place, ask_place, quote_refused, quote_done, quoted}
 
 -- a session with a quote's change
 abbrev pub requoted_in : Session → QuoteChange → Session

@@ -1,18 +1,16 @@
 -- Quote hands Sound on (A3): the member has one quote again (K2b).
-use Rattle.std.specs.Prelude.{ℕ, ◌+◌, ◌≤◌, ◌<◌, Bool, true, false, not, ◌&&◌, ◌||◌, ◌≢◌, ◌≡◌, refl, T, eqb}
-use Rattle.std.proofs.Common.{true≢false, ⊎_elim, sym, ap, subst, ◌∙◌, arith, ltb-false, eq-eqb}
+use Rattle.std.specs.Prelude.{ℕ, ◌+◌, ◌≤◌, ◌<◌, true, false, ◌&&◌, ◌≡◌, refl, T}
+use Rattle.std.proofs.Common.{⊎_elim, sym, ap, subst, ◌∙◌, arith, ltb-false, eq-eqb}
 use Rattle.lists.specs.Tests.{test-holds, and_both, and_intro, neither}
 use Rattle.terms.specs.Bounds.{places, max_number}
-use Rattle.terms.specs.Kinds.{is_member, is_quantity, is_price}
-use Rattle.terms.specs.Orders.{Resting, is_limit, is_legal, resting_as}
+use Rattle.terms.specs.Kinds.{is_member, is_quantity}
+use Rattle.terms.specs.Orders.{Resting, resting_as}
 use Rattle.terms.specs.Quotes.{is_quote_side, is_quote, quote_from, quote_order}
-use Rattle.terms.specs.declared.orders.{Side.Side, Side.TheVariants.Buy, Side.TheVariants.Sell, Limit.Limit, Limit.TheVariants.At}
-use Rattle.terms.specs.declared.quote_terms.{SideEntry.SideEntry, QuoteEntry.QuoteEntry}
-use Rattle.places.specs.Places.{is_taken, is_short}
-use Rattle.book.specs.declared.{Book.Book, Values.Values}
-use Rattle.book.specs.Columns.{order_from, order_at, stored}
+use Rattle.terms.specs.declared.orders.{Side.Side, Side.TheVariants.Buy, Side.TheVariants.Sell}
+use Rattle.terms.specs.declared.quote_terms.{QuoteEntry.QuoteEntry}
+use Rattle.book.specs.declared.{Values.Values}
+use Rattle.book.specs.Columns.{order_from, order_at}
 use Rattle.book.specs.Writing.{stored-order, stored-elsewhere}
-use Rattle.quotes.specs.Quotes.{is_quote_of}
 use Rattle.book.specs.Sound.{SoundOrder, SoundBook, SameQuote, NoQuoteAs, same_or_not, stored-sound}
 use Rattle.quotes.specs.Without.{without-sound, none-quoted}
 use Rattle.controls.specs.Phases.{has_started}

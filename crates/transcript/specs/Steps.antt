@@ -1,10 +1,10 @@
 -- What a record does to the session that is told: an answer with nothing or with a change at a place, or a call. Its trades are few, its lines have room,
 -- the session after it is sound; and what its writing promises.
-use Rattle.std.specs.Prelude.{ℕ, zero, suc, ◌+◌, ◌*◌, ◌≤◌, ◌<◌, false, ◌≡◌, refl, List, [], length}
+use Rattle.std.specs.Prelude.{ℕ, ◌+◌, ◌*◌, ◌≤◌, ◌<◌, false, ◌≡◌, refl, List, [], length}
 use Rattle.std.proofs.Common.{sym, ap, ◌∙◌, append-nil, arith, length-append}
 use Rattle.terms.specs.Bounds.{places, max_trades, trade_list_length}
 use Rattle.terms.specs.Orders.{auction_from}
-use Rattle.terms.specs.declared.orders.{Auction.Auction, Entry.Entry}
+use Rattle.terms.specs.declared.orders.{Auction.Auction}
 use Rattle.trades.specs.declared.{Trade.Trade}
 use Rattle.refusals.specs.Checks.{answered-cases}
 use Rattle.book.specs.Resting.{resting, place_in}
@@ -14,13 +14,12 @@ use Rattle.auction.specs.declared.{Outcome.Outcome, Outcome.TheVariants.Traded, 
 use Rattle.trades.proofs.TradesOf.{trades-count}
 use Rattle.auction.specs.Outcome.{trades}
 use Rattle.session.specs.declared.{Session.Session}
-use Rattle.entries.specs.declared.{Entered.Entered, Deleted.Deleted}
 use Rattle.session.specs.Sound.{Sound}
 use Rattle.entries.specs.SoundAfter.{started-sound, entered-sound, deleted-sound}
 use Rattle.answers.proofs.SoundAfter.{auctioned-sound}
-use Rattle.answers.specs.Auctions.{auction_checks, auctioned, outcome_of, trades_now}
+use Rattle.answers.specs.Auctions.{auction_checks, outcome_of, trades_now}
 use Rattle.session.specs.State.{part}
-use Rattle.records.specs.declared.{kinds.Record.Record, kinds.Deletion.Deletion}
+use Rattle.records.specs.declared.{kinds.Record.Record}
 use Rattle.records.specs.Walk.{Read, record_at}
 use Rattle.records.specs.BandsRead.{BandsAt, record_in, bands-record}
 use Rattle.lines.specs.Line.{line_of, trade_lines, numbered_line, done_line, quote_line}
@@ -39,7 +38,6 @@ use Rattle.entries.specs.Entry.{control_reference, entered, deleted}
 use Rattle.quotation.specs.Quote.{quoted}
 use Rattle.quotation.specs.QuoteCall.{requoted_in, old_pair, old_in, quote_in, quoted_by, quoted-by, quote-placed}
 use Rattle.quotation.specs.QuoteSound.{quoted-sound}
-use Rattle.quotes.specs.declared.{Pair.Pair}
 use Rattle.quotes.specs.QuoteHints.{OneQuoteIn, Hinted}
 use Rattle.entries.specs.Changes.{changed, order_in, delete_in, entered_by, deleted_by, entered_by_lem, deleted-by}
 use Rattle.lines.specs.declared.{words.Word.Word, Line.Line}

@@ -1,5 +1,5 @@
 -- The transcript: 01 "Session file", what the session program prints, as one function of the file's bytes.
-use Rattle.std.specs.Prelude.{ℕ, zero, suc, Bool, true, false, List, [], ◌∷◌, ◌++◌, replicate}
+use Rattle.std.specs.Prelude.{ℕ, suc, Bool, true, false, List, [], ◌∷◌, ◌++◌, replicate}
 use Rattle.terms.specs.Bounds.{trade_list_length}
 use Rattle.terms.specs.Orders.{auction_from}
 use Rattle.terms.specs.Parameters.{start_with}

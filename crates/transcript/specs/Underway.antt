@@ -11,7 +11,7 @@ use Rattle.lists.specs.Put.{put, Wrote, put-append, put-nothing, put-room}
 use Rattle.transcript.specs.declared.{Stop.Stop, Next.Next, Stepped.Stepped, Telling.Telling}
 use Rattle.transcript.specs.Transcript.{step, step_lines}
 use Rattle.transcript.specs.Steps.{WroteStep, step-sound}
-use Rattle.transcript.specs.Told.{next_told, Standing, behind, halt, tell_from, records_told, halt_of, last_of, last_room, faults, telling_leaves, told}
+use Rattle.transcript.specs.Told.{next_told, Standing, halt, tell_from, records_told, halt_of, last_of, last_room, faults, telling_leaves, told}
 use Rattle.transcript.specs.TellLaws.{next-record, tell-record, tell-stop, Within, told-within}
 
 -- the standing of the loop, its text read back from the buffer

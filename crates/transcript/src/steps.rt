@@ -48,12 +48,7 @@ fn quote_doing(effect: QuoteEffect) -> Doing
 }
 
 // Where the sides of a member's quote stand.
-fn old_pair(
-    book: &Book,
-    bids: &[u16; QUOTE_HINTS],
-    asks: &[u16; QUOTE_HINTS],
-    member: u16,
-) -> Pair
+fn old_pair(book: &Book, bids: &[u16; QUOTE_HINTS], asks: &[u16; QUOTE_HINTS], member: u16) -> Pair
     requires { QuotesKnown book.now.quoted book.now.member book.now.side bids.now asks.now }
     ensures { result ≡ old_pair book.now.quoted book.now.member book.now.side member }
 {
@@ -95,7 +90,16 @@ pub(crate) fn doing_of(
         Record::Auction(which) => Doing::Auction(which),
         Record::Quote(e) => {
             let old = old_pair(book, bids, asks, e.member);
-            quote_doing(quote_effect(phase, parameters, reference, false, given, &book.taken, old, e))
+            quote_doing(quote_effect(
+                phase,
+                parameters,
+                reference,
+                false,
+                given,
+                &book.taken,
+                old,
+                e,
+            ))
         }
         Record::Bands(_) => Doing::Bands,
     }

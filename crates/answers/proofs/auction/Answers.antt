@@ -1,18 +1,13 @@
-use Prim.Native.Nat.{ℕ, ◌≤◌}
+use Prim.Native.Nat.{ℕ}
 use mathlib.Core.Bool.{false}
 use mathlib.Core.Path.{◌≡◌, refl, sym, ap, ◌∙◌}
-use mathlib.Core.List.{List, [], ◌∷◌}
-use native.Mathlib.Omega.{arith}
-use lib.ListN.{length}
-use lib.Seq.{length-take-le}
-use Rattle.terms.specs.Bounds.{places}
+use mathlib.Core.List.{List}
 use Rattle.auction.proofs.TradingLaws.{asks-part}
 use Rattle.terms.specs.declared.orders.{Auction.Auction}
 use Rattle.auction.specs.declared.{Outcome.Outcome}
 use Rattle.courses.specs.declared.{Course.Course, Course.TheVariants.Refused, Course.TheVariants.HeldBack, Course.TheVariants.TakesPlace}
 use Rattle.courses.specs.Course.{takes_place}
-use Rattle.answers.proofs.AuctionCalls.{course_now, course-planned, course-priced, taken-few, leaves_kept, leaves-taken}
-use borrow.Author.Rules.{rules}
+use Rattle.answers.proofs.AuctionCalls.{course_now, course-planned, course-priced, leaves_kept, leaves-taken}
 use Rattle.answers.proofs.auction.Goals as goal
 use Rattle.answers.proofs.auction.Goals.{in-TakesPlace, in_default}
 use Rattle.answers.proofs.auction.Goals.{After-planned-plan, Joined-course}

@@ -1,8 +1,6 @@
-use Rattle.effects.specs.declared.{Effect.Effect}
 use Rattle.effects.specs.Effects.{delete-place}
 use Rattle.entries.specs.Changes.{delete_in, deleted_by, deleted-by}
 use mathlib.Core.Path.{◌≡◌, sym, ap, ◌∙◌}
-use borrow.Author.Rules.{rules}
 use Rattle.entries.proofs.delete.Goals as goal
 use Rattle.entries.proofs.delete.Goals.{After-delete_effect-effect}
 

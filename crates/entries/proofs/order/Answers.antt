@@ -3,7 +3,6 @@ use Rattle.entries.specs.Entry.{control_reference}
 use Rattle.entries.specs.Changes.{order_in, entered_by, entered_by_lem}
 use mathlib.Core.Bool.{false}
 use mathlib.Core.Path.{◌≡◌, sym, ap, ◌∙◌}
-use borrow.Author.Rules.{rules}
 use Rattle.entries.proofs.order.Goals as goal
 use Rattle.entries.proofs.order.Goals.{After-order_effect-effect}
 

@@ -1,5 +1,4 @@
-use mathlib.Core.Path.{◌≡◌, sym, ◌∙◌}
-use borrow.Author.Rules.{rules}
+use mathlib.Core.Path.{sym, ◌∙◌}
 use Rattle.terms.proofs.Made.{parameters-good, parameters-refused}
 use Rattle.entries.specs.StartCall.{start-out-of-range, start-again, start-begun}
 use Rattle.entries.proofs.start.Goals as goal

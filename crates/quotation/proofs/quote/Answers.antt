@@ -1,6 +1,5 @@
 use Rattle.quotation.specs.QuoteCall.{quote_in, quoted_by, quoted-by, quote-placed}
 use mathlib.Core.Path.{◌≡◌, sym, ap, ◌∙◌}
-use borrow.Author.Rules.{rules}
 use Rattle.quotation.proofs.quote.Goals as goal
 use Rattle.quotation.proofs.quote.Goals.{After-quote_effect-effect}
 

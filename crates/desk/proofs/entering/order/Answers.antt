@@ -2,11 +2,11 @@ use mathlib.Core.Path.{◌≡◌, sym, ap, ◌∙◌}
 use Prim.Native.Nat.{◌<◌}
 use lib.ListN.{set}
 use native.Mathlib.Omega.{arith}
-use borrow.Author.Rules.{rules}
 use Rattle.terms.specs.Bounds.{places}
 use Rattle.effects.specs.Effects.{order-place}
 use Rattle.entries.specs.Entry.{control_reference}
-use Rattle.entries.specs.Changes.{stored-as}
+use Rattle.book.specs.declared.Book.{Book}
+use Rattle.session.specs.State.{with_book}
 use Rattle.squares.specs.Square.{square_members}
 use Rattle.desk.specs.declared.{Desk.Desk}
 use Rattle.desk.specs.Desk.{is_beyond}
@@ -32,35 +32,14 @@ placed c = let a = c.args in
 pub row_of-row-requires : goal.row_of-row-requires
 row_of-row-requires c = (c.requires.members-long, c.requires.few)
 
-pub put_word-requires : goal.put_word-requires
-put_word-requires c = omega (arith, placed (goal.at.put_word-requires c).In-Done)
-
-pub put32-requires : goal.put32-requires
-put32-requires c = placed (goal.at.put32-requires c).In-Done
-
-pub put16-requires : goal.put16-requires
-put16-requires c = placed (goal.at.put16-requires c).In-Done
-
-pub put8-requires : goal.put8-requires
-put8-requires c = placed (goal.at.put8-requires c).In-Done
-
-pub put8-requires-in-Done : goal.put8-requires-in-Done
-put8-requires-in-Done c = placed (goal.at.put8-requires-in-Done c).In-Done
-
-pub put32-requires-in-Done : goal.put32-requires-in-Done
-put32-requires-in-Done c = placed (goal.at.put32-requires-in-Done c).In-Done
-
-pub put32-requires-in-Done-2 : goal.put32-requires-in-Done-2
-put32-requires-in-Done-2 c = placed (goal.at.put32-requires-in-Done-2 c).In-Done
-
-pub put8-requires-in-Done-2 : goal.put8-requires-in-Done-2
-put8-requires-in-Done-2 c = placed (goal.at.put8-requires-in-Done-2 c).In-Done
+pub write-requires : goal.write-requires
+write-requires c = placed (goal.at.write-requires c).In-Done
 
 pub narrow-requires : goal.narrow-requires
 narrow-requires c = row_small (goal.at.narrow-requires c).In-Done
 
-pub put8-requires-in-Done-3 : goal.put8-requires-in-Done-3
-put8-requires-in-Done-3 c = placed (goal.at.put8-requires-in-Done-3 c).In-Done
+pub put-requires : goal.put-requires
+put-requires c = (omega arith, placed (goal.at.put-requires c).In-Done)
 
 pub offset_bounds-desk-row : goal.offset_bounds-desk-row
 offset_bounds-desk-row c = let h = row_small (goal.at.offset_bounds-desk-row c).In-Done in omega arith
@@ -77,8 +56,8 @@ returns-in-Refused c = let a = c.args in
 
 pub returns-in-Done : goal.returns-in-Done
 returns-in-Done c = let a = c.args in
-    let session = stored-as a.desk.session c.in-Done.c c.put_word.ensures c.put32.ensures c.put16.ensures c.put8.ensures c.put8-in-Done.ensures c.put32-in-Done.ensures c.put32-in-Done-2.ensures c.put8-in-Done-2.ensures in
-    let rows = rw c.narrow.ensures at c.put8-in-Done-3.ensures in
+    let session = ap (λ (b : Book). with_book a.desk.session c.in-Done.c.given b) c.write.ensures in
+    let rows = rw c.narrow.ensures at c.put.ensures in
     let desk = entering-as a.desk a.e.member (set a.desk.rows c.in-Done.c.place) session c.row_of-row.ensures rows c.count_with.ensures in
     ap (λ (d : Desk). record { answer = 0; number = c.in-Done.c.given; desk = d }) desk
     ∙ ap (entered_by a.desk a.e) (sym c.in-Done.is ∙ effect-in (goal.at.returns-in-Done c).After-order_effect-effect)

@@ -1,7 +1,6 @@
 -- By the table that its part holds.
 use mathlib.Core.Path.{◌∙◌}
 use Rattle.records.specs.BandsRead.{bands-within, bands-record, bands-part}
-use borrow.Author.Rules.{rules}
 use Rattle.transcript.proofs.steps.bands_written.Goals as goal
 
 pub bands_from-requires : goal.bands_from-requires

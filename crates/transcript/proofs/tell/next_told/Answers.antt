@@ -1,9 +1,8 @@
 -- Each case is what the piece says.
 use mathlib.Core.Path.{◌≡◌, sym, ◌∙◌}
-use borrow.Author.Rules.{rules}
 use Rattle.records.specs.declared.{Piece.Piece}
 use Rattle.transcript.specs.Told.{next_told}
-use Rattle.transcript.specs.Next.{next_from, next-full, next-piece}
+use Rattle.transcript.specs.Next.{next_from, next-piece}
 use Rattle.transcript.proofs.tell.next_told.Goals as goal
 use Rattle.transcript.proofs.tell.next_told.Goals.{After-read_at-piece}
 

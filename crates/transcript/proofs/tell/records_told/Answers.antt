@@ -1,21 +1,22 @@
 use Prim.Native.Nat.{ℕ, ◌+◌, ◌-◌, ◌≤◌, ◌<◌}
-use mathlib.Core.Path.{◌≡◌, refl, sym, ◌∙◌}
+use mathlib.Core.Path.{◌≡◌, refl, sym, ap, ◌∙◌}
 use mathlib.Core.List.{List}
 use lib.ListN.{length}
-use Rattle.terms.specs.Bounds.{trade_list_length, places}
+use Rattle.terms.specs.Bounds.{places}
 use Rattle.book.specs.Hints.{sound-numbered}
+use Rattle.book.specs.declared.Book.{Book}
 use Rattle.session.specs.Sound.{legal_price}
+use Rattle.session.specs.State.{with_book}
 use Rattle.lines.specs.Line.{numbered_line, done_line, quote_line}
-use Rattle.entries.specs.Changes.{changed, stored-as}
-use Rattle.quotation.specs.QuoteCall.{requoted_in, requoted-as}
+use Rattle.entries.specs.Changes.{changed}
+use Rattle.quotation.specs.QuoteCall.{requoted_in}
 use Rattle.records.specs.BandsRead.{BandsAt, record_in}
 use Rattle.transcript.specs.declared.{Stepped.Stepped, Doing.Doing}
 use Rattle.transcript.specs.Transcript.{step}
 use Rattle.transcript.specs.Steps.{record_room, WroteStep, wrote-alone, quiet, does-found, bands-told, wrote_as}
 use Rattle.transcript.specs.TellLaws.{next-record}
-use Rattle.transcript.specs.InPlace.{HintedIn, quotes-known, still-hinted, quote-hinted}
+use Rattle.transcript.specs.InPlace.{quotes-known, written-hinted, requoted-hinted}
 use Rattle.transcript.specs.Underway.{Underway, underway-first, underway-next, underway-stop}
-use borrow.Author.Rules.{rules}
 use native.Mathlib.Omega.{arith}
 use Rattle.transcript.proofs.tell.records_told.Goals as goal
 use Rattle.transcript.proofs.tell.records_told.Goals.{After-doing_of-doing, In-Done, In-Quoted, In-Record}
@@ -80,29 +81,8 @@ loop-record-preserved-in-Refused c = let l = c.loop-record in
       l.invariant.4,
     )
 
-pub put_word-requires : goal.put_word-requires
-put_word-requires c = omega (arith, in-book (goal.at.put_word-requires c).In-Done)
-
-pub put32-requires : goal.put32-requires
-put32-requires c = in-book (goal.at.put32-requires c).In-Done
-
-pub put16-requires : goal.put16-requires
-put16-requires c = in-book (goal.at.put16-requires c).In-Done
-
-pub put8-requires : goal.put8-requires
-put8-requires c = in-book (goal.at.put8-requires c).In-Done
-
-pub put8-requires-in-Done : goal.put8-requires-in-Done
-put8-requires-in-Done c = in-book (goal.at.put8-requires-in-Done c).In-Done
-
-pub put32-requires-in-Done : goal.put32-requires-in-Done
-put32-requires-in-Done c = in-book (goal.at.put32-requires-in-Done c).In-Done
-
-pub put32-requires-in-Done-2 : goal.put32-requires-in-Done-2
-put32-requires-in-Done-2 c = in-book (goal.at.put32-requires-in-Done-2 c).In-Done
-
-pub put8-requires-in-Done-2 : goal.put8-requires-in-Done-2
-put8-requires-in-Done-2 c = in-book (goal.at.put8-requires-in-Done-2 c).In-Done
+pub write-requires : goal.write-requires
+write-requires c = in-book (goal.at.write-requires c).In-Done
 
 pub hint-requires : goal.hint-requires
 hint-requires c = in-book (goal.at.hint-requires c).In-Done
@@ -113,44 +93,24 @@ loop-record-smaller-in-Done c = let f = onward (goal.at.loop-record-smaller-in-D
 pub loop-record-preserved-in-Done : goal.loop-record-preserved-in-Done
 loop-record-preserved-in-Done c = let l = c.loop-record in
     let e = does-found l.present l.invariant.0.sound c.in-Record.record (sym c.in-Done.is ∙ c.doing_of-doing.ensures) in
-    let put8 = c.put8.ensures in
-    let put16 = c.put16.ensures in
-    let marks = c.put8-in-Done-2.ensures in (
+    let wrote = c.write.ensures in (
       next (goal.at.loop-record-preserved-in-Done c).In-Record
           (wrote-alone (l.count + 1) _ _ _ (record { session = _; at = c.done_line-at.result }) (quiet (changed l.present c.in-Done.c) (done_line c.in-Done.word c.in-Done.c.given)) _ e.0 refl
-          (stored-as l.present c.in-Done.c c.put_word.ensures c.put32.ensures put16 put8 c.put8-in-Done.ensures c.put32-in-Done.ensures c.put32-in-Done-2.ensures marks)
+          (ap (λ (b : Book). with_book l.present c.in-Done.c.given b) wrote)
           c.done_line-at.ensures)
           c.done_line-at.auto.out,
       l.invariant.1,
       l.invariant.2,
-      still-hinted l.invariant.3 _ _ _ marks e.2 put16 put8,
-      still-hinted l.invariant.4 _ _ _ marks e.2 put16 put8,
+      written-hinted l.present.book l.invariant.3 _ _ _ e.2 wrote,
+      written-hinted l.present.book l.invariant.4 _ _ _ e.2 wrote,
     )
 
 -- a quote's new sides are at places
 in-book-both : (c : In-Quoted) → let change = c.in-Quoted.c in (change.fresh.bid < places) × (change.fresh.ask < places)
 in-book-both c = (does-found c.loop-record.present c.loop-record.invariant.0.sound c.in-Record.record (sym c.in-Quoted.is ∙ c.doing_of-doing.ensures)).1
 
-pub requote32-requires : goal.requote32-requires
-requote32-requires c = in-book-both (goal.at.requote32-requires c).In-Quoted
-
-pub requote16-requires : goal.requote16-requires
-requote16-requires c = in-book-both (goal.at.requote16-requires c).In-Quoted
-
-pub requote8-requires : goal.requote8-requires
-requote8-requires c = in-book-both (goal.at.requote8-requires c).In-Quoted
-
-pub requote8-requires-in-Quoted : goal.requote8-requires-in-Quoted
-requote8-requires-in-Quoted c = in-book-both (goal.at.requote8-requires-in-Quoted c).In-Quoted
-
-pub requote32-requires-in-Quoted : goal.requote32-requires-in-Quoted
-requote32-requires-in-Quoted c = in-book-both (goal.at.requote32-requires-in-Quoted c).In-Quoted
-
-pub requote32-requires-in-Quoted-2 : goal.requote32-requires-in-Quoted-2
-requote32-requires-in-Quoted-2 c = in-book-both (goal.at.requote32-requires-in-Quoted-2 c).In-Quoted
-
-pub requote8-requires-in-Quoted-2 : goal.requote8-requires-in-Quoted-2
-requote8-requires-in-Quoted-2 c = in-book-both (goal.at.requote8-requires-in-Quoted-2 c).In-Quoted
+pub requote-requires : goal.requote-requires
+requote-requires c = in-book-both (goal.at.requote-requires c).In-Quoted
 
 pub hint-requires-in-Quoted : goal.hint-requires-in-Quoted
 hint-requires-in-Quoted c = (in-book-both (goal.at.hint-requires-in-Quoted c).In-Quoted).0
@@ -171,20 +131,17 @@ pub loop-record-preserved-in-Quoted : goal.loop-record-preserved-in-Quoted
 loop-record-preserved-in-Quoted c = let l = c.loop-record in
     let change = c.in-Quoted.c in
     let e = does-found l.present l.invariant.0.sound c.in-Record.record (sym c.in-Quoted.is ∙ c.doing_of-doing.ensures) in
-    let sides = c.requote8.ensures in
-    let members = c.requote16.ensures in
-    let marks = c.requote8-in-Quoted-2.ensures in
     let long = l.invariant.0.sound.book-sound.sized.member in
-    let two = e.2 in (
+    let wrote = c.requote.ensures in (
       next (goal.at.loop-record-preserved-in-Quoted c).In-Record
           (wrote-alone (l.count + 1) _ _ _ (record { session = _; at = c.quote_line-at.result }) (quiet (requoted_in l.present change) (quote_line change.bid.number change.ask.number)) _ e.0 refl
-          (requoted-as l.present change c.requote_words.ensures c.requote32.ensures members sides c.requote8-in-Quoted.ensures c.requote32-in-Quoted.ensures c.requote32-in-Quoted-2.ensures marks)
+          (ap (λ (b : Book). with_book l.present change.given b) wrote)
           c.quote_line-at.ensures)
           c.quote_line-at.auto.out,
       l.invariant.1,
       l.invariant.2,
-      quote-hinted l.invariant.3 long _ _ _ _ marks two.bid-marked two.ask-marked members two.one-member sides two.buys two.sells c.quote_hint.ensures,
-      quote-hinted l.invariant.4 long _ _ _ _ marks two.bid-marked two.ask-marked members two.one-member sides two.buys two.sells c.quote_hint-in-Quoted.ensures,
+      requoted-hinted l.present.book l.invariant.3 long change e.2 _ wrote c.quote_hint.ensures,
+      requoted-hinted l.present.book l.invariant.4 long change e.2 _ wrote c.quote_hint-in-Quoted.ensures,
     )
 
 pub loop-record-smaller-in-Start : goal.loop-record-smaller-in-Start
