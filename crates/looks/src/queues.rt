@@ -46,10 +46,8 @@ pub(crate) fn theoretical_lines(
     ensures { result ≤ length out.old }
 {
     let mut end = at;
-    let mut auction: u8 = 0;
-    while auction < ASKED {
+    for auction in 0..ASKED {
         end = theoretical_line(rt, out, end, session, auction);
-        auction += 1;
     }
     end
 }
@@ -90,10 +88,8 @@ fn ranked_lines_of(rt: &impl Print, out: &mut [u8], at: usize, session: Session,
     ensures { result ≤ length out.old }
 {
     let mut end = at;
-    let mut auction: u8 = 0;
-    while auction < ASKED {
+    for auction in 0..ASKED {
         end = ranked_line(rt, out, end, session, side, auction);
-        auction += 1;
     }
     end
 }
@@ -104,10 +100,8 @@ pub(crate) fn ranked_lines(rt: &impl Print, out: &mut [u8], at: usize, session: 
     ensures { result ≤ length out.old }
 {
     let mut end = at;
-    let mut side: u8 = 0;
-    while side < ASKED {
+    for side in 0..ASKED {
         end = ranked_lines_of(rt, out, end, session, side);
-        side += 1;
     }
     end
 }
@@ -129,10 +123,8 @@ pub(crate) fn short_lines(rt: &impl Print, out: &mut [u8], at: usize, session: S
     ensures { result ≤ length out.old }
 {
     let mut end = at;
-    let mut side: u8 = 0;
-    while side < ASKED {
+    for side in 0..ASKED {
         end = short_line(rt, out, end, session, side);
-        side += 1;
     }
     end
 }
