@@ -28,7 +28,7 @@ pub struct Deletion {
     pub number: u32,
 }
 
-// The kinds of record and their lengths.
+// The kinds of record and their lengths. Numbers and no enum, so that the head of each is a constant by which one compare tells it.
 #[derive(Clone, Copy)]
 pub struct Kind;
 
@@ -79,7 +79,7 @@ impl Kind {
     pub fn bands_length(count: u16) -> usize
         ensures { result ≡ whole_length (band_widths count) }
     {
-        Kind::BANDS_LENGTH + BandsPart::ROW * count as usize
+        Kind::BANDS_LENGTH + BandsPart::ROW * usize::from(count)
     }
 }
 
@@ -240,7 +240,7 @@ fn row_at(part: &[u8], count: u16, index: usize) -> Row
     requires { index < max_rows }
     ensures { result ≡ row_field part.now count index }
 {
-    if count as usize <= index {
+    if usize::from(count) <= index {
         return Row::none();
     }
     let at = BandsPart::ROWS + BandsPart::ROW * index;
@@ -265,7 +265,7 @@ fn bands_fields(part: &[u8]) -> Start
     ensures { result ≡ bands_fields part.now }
 {
     let table = table_fields(part);
-    let behind = BandsPart::ROWS + BandsPart::ROW * table.count as usize;
+    let behind = BandsPart::ROWS + BandsPart::ROW * usize::from(table.count);
     Start {
         table,
         reference: four(part, behind + BandsPart::REFERENCE),
@@ -400,7 +400,7 @@ pub fn bands_from(bytes: &[u8], place: usize) -> Start
     ensures { result ≡ bands_fields (part_at bytes.now place) }
 {
     let from = place + Kind::HEADER_LENGTH;
-    let next = place + two(bytes, place) as usize;
+    let next = place + usize::from(two(bytes, place));
     bands_fields(&bytes[from..next])
 }
 
@@ -409,7 +409,7 @@ fn bands_at(bytes: &[u8], place: usize, head: u32) -> Header
     requires { Unheaded head bytes.now place }
     ensures { result ≡ header_at bytes.now place }
 {
-    if head / 65_536 != Kind::BANDS as u32 {
+    if head / 65_536 != u32::from(Kind::BANDS) {
         return Header::Bad;
     }
     let length = (head % 65_536) as usize;
