@@ -6,7 +6,8 @@ ghost use Rattle.session.specs.Sound.{Sound};
 ghost use Rattle.answers.specs.Auctions.{auction_leaves, auctioned};
 
 use courses::{
-    AuctionAnswer, Course, answer_of, planned, price_of, quantity_of, result_of, standing_after,
+    AuctionAnswer, Course, Standing, answer_of, planned, price_of, quantity_of, result_of,
+    standing_after,
 };
 use session::Session;
 use terms::Place;
@@ -59,7 +60,12 @@ pub fn auction(mut session: Session, which: u8, list: &mut [u32]) -> Auctioned
     }
     let answer = answer_of(course);
     let result = result_of(course, count);
-    let standing = standing_after(course, phase, session.delayed, session.reference);
+    let before = Standing {
+        phase,
+        delayed: session.delayed,
+        reference: session.reference,
+    };
+    let standing = standing_after(course, before);
     let later = standing.phase;
     let reference = standing.reference;
     let book = session.book;

@@ -228,25 +228,20 @@ pub fn planned(
 }
 
 // What the session stands at after a call: the next phase and the auction's price where it takes place, the mark where it is delayed.
-pub fn standing_after(course: Course, phase: Phase, delayed: bool, reference: Price) -> Standing
+pub fn standing_after(course: Course, before: Standing) -> Standing
     requires { Priced course }
-    ensures { result ≡ standing_by course (record { phase = phase; delayed = delayed; reference = reference }) }
+    ensures { result ≡ standing_by course before }
 {
     match course {
-        Course::Refused(_) => Standing {
-            phase,
-            delayed,
-            reference,
-        },
+        Course::Refused(_) => before,
         Course::HeldBack(outcome) => Standing {
-            phase,
-            delayed: delayed_by(outcome, delayed),
-            reference,
+            delayed: delayed_by(outcome, before.delayed),
+            ..before
         },
         Course::TakesPlace(auction, outcome) => Standing {
             phase: phase_after(auction),
-            delayed,
-            reference: reference_by(outcome, reference),
+            reference: reference_by(outcome, before.reference),
+            ..before
         },
     }
 }

@@ -7,7 +7,8 @@ ghost use Rattle.desk.specs.Sound.{SoundDesk};
 ghost use Rattle.desk_auction.specs.Auctions.{auction_leaves, auctioned};
 
 use courses::{
-    AuctionAnswer, Course, answer_of, planned, price_of, quantity_of, result_of, standing_after,
+    AuctionAnswer, Course, Standing, answer_of, planned, price_of, quantity_of, result_of,
+    standing_after,
 };
 use desk::Desk;
 use session::Session;
@@ -73,7 +74,12 @@ pub fn auction(desk: Desk, which: u8, list: &mut [u32]) -> Auctioned
     }
     let answer = answer_of(course);
     let result = result_of(course, count);
-    let standing = standing_after(course, phase, session.delayed, session.reference);
+    let before = Standing {
+        phase,
+        delayed: session.delayed,
+        reference: session.reference,
+    };
+    let standing = standing_after(course, before);
     let later = standing.phase;
     let reference = standing.reference;
     let book = session.book;
