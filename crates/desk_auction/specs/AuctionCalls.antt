@@ -1,10 +1,10 @@
 -- The auction of a desk from what its code learns on the way: its trades, paired by places, are added to the cells of their members' rows.
-use Rattle.std.specs.Prelude.{ℕ, zero, suc, ◌+◌, ◌*◌, ◌≤◌, ◌<◌, ◌^◌, true, false, ◌≡◌, refl, List, [], ◌∷◌, ◌++◌, map, eqb, length, get_or, take, drop}
-use Rattle.std.proofs.Common.{true≢false, ⊎_elim, sym, ap, subst, ◌∙◌, arith, eq-eqb, ne_eqb, length-append}
+use Rattle.std.specs.Prelude.{ℕ, ◌+◌, ◌*◌, ◌≤◌, ◌<◌, ◌^◌, true, false, ◌≡◌, refl, List, [], ◌∷◌, ◌++◌, map, eqb, length, get_or, take, drop}
+use Rattle.std.proofs.Common.{true≢false, ⊎_elim, sym, ap, ◌∙◌, arith, eq-eqb, ne_eqb, length-append}
 use mathlib.Core.List.Memᴰ
 use Rattle.std.proofs.lemmas.List.{length-map}
 use Rattle.lists.specs.Sums.{◌∈◌}
-use Rattle.terms.specs.Bounds.{places, max_quantity}
+use Rattle.terms.specs.Bounds.{places}
 use Rattle.terms.specs.Orders.{Resting, auction_from}
 use Rattle.terms.specs.declared.orders.{Side.Side, Side.TheVariants.Buy, Side.TheVariants.Sell, Auction.Auction}
 use Rattle.places.specs.Places.{is_taken}
@@ -31,14 +31,13 @@ use Rattle.courses.specs.Answer.{answer_with}
 use Rattle.courses.specs.Course.{result_by, takes_place}
 use Rattle.answers.specs.Auctions as plain
 use Rattle.answers.proofs.AuctionCalls.{course_now, taken_trades, taken-fits, taken-volume, taken-ranks, taken-count}
-use Rattle.squares.specs.Square.{square_members, InBook, total, added_to, added_none}
+use Rattle.squares.specs.Square.{InBook, total, added_to}
 use Rattle.squares.specs.Naming.{named, place_column, renamed, renamed-written}
 use Rattle.squares.specs.Pairs.{pairs-named, pairs_of, along-named, at-a-rank, named-volume, added-named}
 use Rattle.desk.specs.declared.{Desk.Desk}
-use Rattle.desk.specs.Desk.{known, row_in, with_totals}
+use Rattle.desk.specs.Desk.{row_in, with_totals}
 use Rattle.desk.specs.Sound.{SoundDesk, far-below}
-use Rattle.desk_auction.specs.declared.{Auctioned.Auctioned}
-use Rattle.desk_auction.specs.Auctions.{member_of, row_of_order, trades_listed, AuctionLeaves, auction_leaves, cleared_by, auctioned}
+use Rattle.desk_auction.specs.Auctions.{member_of, row_of_order, trades_listed, auction_leaves, cleared_by, auctioned}
 
 -- the member of a number is that of the order that has it
 pub member_of_lem : (os : List Resting) → Distinct os → (o : Resting) → o ∈ os → member_of os o.number ≡ o.member

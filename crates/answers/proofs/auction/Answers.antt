@@ -7,7 +7,7 @@ use Rattle.terms.specs.declared.orders.{Auction.Auction}
 use Rattle.auction.specs.declared.{Outcome.Outcome}
 use Rattle.courses.specs.declared.{Course.Course, Course.TheVariants.Refused, Course.TheVariants.HeldBack, Course.TheVariants.TakesPlace}
 use Rattle.courses.specs.Course.{takes_place}
-use Rattle.answers.proofs.AuctionCalls.{course_now, course-planned, course-priced, leaves_kept, leaves-taken}
+use Rattle.answers.proofs.AuctionCalls.{IsCourseNow, course-planned, course-priced, leaves_kept, leaves-taken}
 use Rattle.answers.proofs.auction.Goals as goal
 use Rattle.answers.proofs.auction.Goals.{in-TakesPlace, in_default}
 use Rattle.answers.proofs.auction.Goals.{After-planned-plan, Joined-course}
@@ -17,7 +17,7 @@ abbrev ranks : After-planned-plan → List ℕ
 ranks c = c.planned-plan.new.ranks
 
 -- the course is the one that the session has now
-course-is : (c : After-planned-plan) → let a = c.args in c.planned-plan.result.course ≡ course_now a.session c.requires a.which a.list.now
+course-is : (c : After-planned-plan) → let a = c.args in IsCourseNow a.session c.requires a.which a.list.now c.planned-plan.result.course
 course-is c = let a = c.args in
     course-planned a.session c.requires a.which a.list.now c.number.result c.number-2.result c.number.ensures c.number-2.ensures c.planned-plan.ensures
 
@@ -25,9 +25,9 @@ course-is c = let a = c.args in
 course-met : (c : Joined-course) → ◌≡◌ {A = Course} c.match-course.course c.planned-plan.result.course
 course-met c = elim c.match-course.branch [ in-TakesPlace w ↦ w.course-is ∙ sym w.in-TakesPlace.is | in_default w ↦ w.course-is ]
 
-course-at : (c : Joined-course) → let a = c.args in c.match-course.course ≡ course_now a.session c.requires a.which a.list.now
+course-at : (c : Joined-course) → let a = c.args in IsCourseNow a.session c.requires a.which a.list.now c.match-course.course
 course-at c = let a = c.args in
-    course-met c ∙ course-planned a.session c.requires a.which a.list.now c.number.result c.number-2.result c.number.ensures c.number-2.ensures c.planned-plan.ensures
+    rw (course-met c) (course-planned a.session c.requires a.which a.list.now c.number.result c.number-2.result c.number.ensures c.number-2.ensures c.planned-plan.ensures)
 
 -- a course of the first two cases doesn't take place
 not-taking : (course : Course) → ((a : Auction) (o : Outcome) → course ≡ TakesPlace a o → ⊥) → takes_place course ≡ false
@@ -37,7 +37,7 @@ not-taking (TakesPlace a o) k = absurd (k a o refl)
 
 pub standing_after-standing-requires : goal.standing_after-standing-requires
 standing_after-standing-requires c = let a = c.args in
-    rw (course-at (goal.at.standing_after-standing-requires c).Joined-course) (course-priced a.session c.requires a.which a.list.now)
+    course-priced a.session c.requires a.which a.list.now c.match-course.course (course-at (goal.at.standing_after-standing-requires c).Joined-course)
 
 pub returns : goal.returns
 returns c = let a = c.args in

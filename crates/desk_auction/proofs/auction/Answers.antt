@@ -1,30 +1,19 @@
-use Prim.Native.Nat.{ℕ, ◌+◌, ◌*◌, ◌≤◌}
-use mathlib.Core.Logic.{◌⊎◌, ⊎_elim}
+use Prim.Native.Nat.{ℕ}
 use mathlib.Core.Bool.{false}
 use mathlib.Core.Path.{◌≡◌, refl, sym, ap, ◌∙◌}
-use mathlib.Core.List.{List, [], ◌∷◌}
-use native.Mathlib.Omega.{arith}
-use lib.ListN.{length, get_or, take, drop}
-use lib.Seq.{length-take-le}
-use Rattle.terms.specs.Bounds.{places}
-use Rattle.trades.specs.declared.{Trade.Trade}
-use Rattle.auction.specs.Outcome.{quantity_answered}
-use Rattle.auction.specs.Trading.{trades_in}
+use mathlib.Core.List.{List}
+use lib.ListN.{get_or}
 use Rattle.auction.proofs.TradingLaws.{asks-part}
-use denote.Enum.Declared.{tag_of}
-use types.Run.{OneOf}
-use Rattle.courses.specs.contracts.Course.{the_type}
 use Rattle.courses.specs.declared.{Course.Course, Course.TheVariants.Refused, Course.TheVariants.HeldBack, Course.TheVariants.TakesPlace}
 use Rattle.courses.specs.Course.{takes_place}
 use Rattle.answers.specs.AuctionCalls.{leaves_as}
-use Rattle.answers.proofs.AuctionCalls.{course_now, course-planned, course-priced, taken-few, leaves_kept, leaves-taken}
+use Rattle.answers.proofs.AuctionCalls.{course_now, course-planned, course-priced, leaves_kept, leaves-taken}
 use Rattle.trades.specs.Written.{trades_read}
 use Rattle.courses.specs.Course.{result_by}
 use Rattle.squares.specs.Square.{added_to, added_none}
 use Rattle.squares.specs.Naming.{renamed}
 use Rattle.desk_auction.specs.AuctionCalls.{cleared-leaves, none-counted, TradedBy, list-room, placed, below, counted-by-numbers, cells-after}
 use Rattle.desk_auction.specs.Auctions.{row_of_order}
-use borrow.Author.Rules.{rules}
 use Rattle.desk_auction.proofs.auction.Goals as goal
 use Rattle.desk_auction.proofs.auction.Goals.{in-TakesPlace, in_default}
 use Rattle.terms.specs.declared.orders.{Auction.Auction}
