@@ -43,7 +43,7 @@ use Rattle.courses.specs.Held.{preventable, delayable}
 use Rattle.courses.specs.Answer.{answer_with, answer_of}
 use Rattle.courses.specs.Course.{course_of, takes_place, answer_by, result_by, Priced, standing_by, Decided, takes-place, Planned}
 use Rattle.answers.specs.Auctions.{held_by, outcome_of, auction_checks, auction_leaves, auction_refused, auction_done, auctioned}
-use Rattle.answers.specs.AuctionCalls.{closed_by, leaves_as, leaves_by, settled_by, trades_by}
+use Rattle.answers.specs.AuctionCalls.{closed_by, standing_of, leaves_as, leaves_by, settled_by, trades_by}
 
 module _ (s : Session) (sound : Sound s) (a : Auction) where
   by-ranks : (quantity : ℕ) → trades_by s a quantity ≡ trades_of quantity (part s a)
@@ -140,10 +140,10 @@ module _ (s : Session) (sound : Sound s) (which : ℕ) (list : List ℕ) where
       (delayable (auction_from which) s.delayed) refl refl _ refl
 
   -- the course that is planned
-  pub course-planned : {plan : Plan} {ranks : List ℕ} (threshold reference : ℕ) → threshold ≡ s.parameters.threshold.0 → reference ≡ s.reference.0
-      → Planned which s.phase (length list) s.delayed threshold reference s.book.side s.book.validity s.book.limit s.book.number s.book.left plan ranks
+  pub course-planned : {plan : Plan} {ranks : List ℕ}
+      → Planned which s.phase (length list) s.delayed s.parameters.threshold.0 s.reference.0 s.book.side s.book.validity s.book.limit s.book.number s.book.left plan ranks
       → IsCourseNow plan.course
-  course-planned threshold reference t r planned = record { answer = planned.course.answer; goes = λ h. planned.course.goes h ∙ rw (t, r, outcome-found) }
+  course-planned planned = record { answer = planned.course.answer; goes = λ h. planned.course.goes h ∙ rw outcome-found }
 
   -- its price is one
   pub course-priced : (course : Course) → IsCourseNow course → Priced course
@@ -267,9 +267,9 @@ module _ (s : Session) (sound : Sound s) (which : ℕ) (list : List ℕ) where
 
 module _ (s : Session) (sound : Sound s) (which : ℕ) (list : List ℕ) (course : Course) (is : IsCourseNow s sound which list course)
     (now : Session) (count : ℕ) (left : List ℕ) (answer : ℕ) (a : answer ≡ answer_by course) (result : AuctionAnswer) (r : result ≡ result_by course count)
-    (standing : Standing) (t : standing ≡ standing_by course (record { phase = s.phase; delayed = now.delayed; reference = now.reference })) where
+    (standing : Standing) (t : standing ≡ standing_by course (standing_of s)) where
   -- refused or held back
-  pub leaves_kept : takes_place course ≡ false → now ≡ s → count ≡ 0 → left ≡ list → leaves_as s answer result standing now left ≡ auctioned s which list
+  pub leaves_kept : takes_place course ≡ false → now ≡ s → count ≡ 0 → left ≡ list → leaves_as answer result standing now left ≡ auctioned s which list
   leaves_kept stays n c l = rw (a, r, t, n, c, l) (kept_leaves s sound which list course is stays)
 
   -- .. or taking place, with each column settled
@@ -282,6 +282,6 @@ module _ (s : Session) (sound : Sound s) (which : ℕ) (list : List ℕ) (course
       × (closed.rests ≡ rests_in b (quantity_answered p) s.book.validity s.book.left (take bids ranks) (take asks (drop bids ranks)))
       × (4 * closed.count ≤ length list → left ≡ quadruples (price_answered p) (trades_in (quantity_answered p) s.book.number s.book.left (take bids ranks) (take asks (drop bids ranks))) ++ drop (4 * closed.count) list)
       → (end : ℕ) → end ≡ behind_taken s.book.taken → book ≡ settled_to closed.rests s.book end
-      → leaves_as s answer result standing now left ≡ auctioned s which list
+      → leaves_as answer result standing now left ≡ auctioned s which list
   leaves-taken takes ranks bids asks buys sells book n closed c (k, rests, l) end e settled =
       rw (a, r, t, n, c) (taken-leaves s sound which list course is takes ranks bids asks buys sells closed.count book left k (settled ∙ rw (e, rests)) l)

@@ -31,6 +31,12 @@ takes_place (Refused r) = false
 takes_place (HeldBack o) = false
 takes_place (TakesPlace a o) = true
 
+-- .. where it is no third
+pub not-taking : (course : Course) → ((a : Auction) (o : Outcome) → course ≡ TakesPlace a o → ⊥) → takes_place course ≡ false
+not-taking (Refused r) k = refl
+not-taking (HeldBack o) k = refl
+not-taking (TakesPlace a o) k = absurd (k a o refl)
+
 abbrev pub turned_down : Refusal → Plan
 turned_down r = record { course = Refused r; bids = 0; asks = 0 }
 

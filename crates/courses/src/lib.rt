@@ -16,7 +16,7 @@ use auction::{Held, Outcome};
 use book::Book;
 use controls::{Phase, phase_after};
 use refusals::Refusal;
-use terms::{Auction, Price};
+use terms::{Auction, DelayThreshold, Price};
 
 // The four numbers of an auction and of the theoretical answer.
 #[derive(Clone, Copy)]
@@ -197,27 +197,25 @@ fn asked(which: u8, phase: Phase, size: usize) -> Result<Auction, Refusal>
 // buys first.
 pub fn planned(
     which: u8,
-    phase: Phase,
     size: usize,
-    delayed: bool,
-    threshold: u16,
-    reference: u32,
+    standing: Standing,
+    threshold: DelayThreshold,
     book: &Book,
     ranks: &mut [u64],
 ) -> Plan
     requires { places ≤ length ranks.old }
-    ensures { Planned which phase size delayed threshold reference book.now.side book.now.validity book.now.limit book.now.number book.now.left result ranks.new }
+    ensures { Planned which standing.phase size standing.delayed threshold.0 standing.reference.0 book.now.side book.now.validity book.now.limit book.now.number book.now.left result ranks.new }
 {
-    let auction = match asked(which, phase, size) {
+    let auction = match asked(which, standing.phase, size) {
         Ok(auction) => auction,
         Err(refusal) => return turned_down(refusal),
     };
     let view = auction::outlook(
         ranks,
         auction,
-        held(auction, delayed),
-        threshold,
-        reference,
+        held(auction, standing.delayed),
+        threshold.number(),
+        standing.reference.number(),
         book,
     );
     Plan {
