@@ -1,5 +1,4 @@
 use Rattle.std.proofs.Common.{sym, ap, ◌∙◌, arith, ◌+◌, ◌-◌, ◌≡◌, length, take, length-take-le}
-use Rattle.transcript.specs.declared.Stop.{Stop}
 use Rattle.transcript.specs.declared.Next.{Next}
 use Rattle.transcript.specs.TellLaws.{next-record}
 use Rattle.transcript.specs.Fed.{next-short}
