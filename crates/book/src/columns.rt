@@ -1,8 +1,9 @@
 // Columns: how an order stands at a place, and storing, clearing and finding one.
-ghost use Rattle.std.specs.Prelude.{◌≡◌, ◌<◌, ◌≤◌, ◌+◌, ◌/◌, false, ◌||◌, set};
-ghost use Rattle.std.specs.List.{fold, slice_range};
+ghost use Rattle.std.specs.Prelude.{◌≡◌, ◌<◌, ◌≤◌, ◌+◌, ◌/◌, ℕ, true, false, ◌||◌, set};
+ghost use Rattle.std.specs.List.{fold};
 ghost use Rattle.book.specs.Columns.{values_of, empty_values, empty_book, written};
-ghost use Rattle.book.specs.Resting.{place_in};
+ghost use Rattle.book.specs.Groups.{has_in, has_number};
+ghost use Rattle.book.specs.Resting.{place_in, is_sought};
 ghost use Rattle.places.specs.Places.{word_places};
 ghost use Rattle.terms.specs.Bounds.{places};
 ghost use Rattle.terms.specs.Orders.{validity_from, resting_as};
@@ -133,49 +134,63 @@ impl Book {
     pub fn place_of(&self, number: u32, member: u16) -> usize
         ensures { result ≡ place_in self.now.taken self.now.number self.now.member number member 0 places }
     {
-        for group in 0..Place::COUNT / GROUP {
-            let from = group * GROUP;
-            if holds::<u32, GROUP>(&self.number, from, number) {
-                let found = self.place_in_group(number, member, from);
-                if found < from + GROUP {
-                    return found;
-                }
-            }
-        }
-        Place::COUNT
-    }
-
-    // The least of eight places from one on whose resting order has this number and this member, or the place behind them.
-    fn place_in_group(&self, number: u32, member: u16, from: usize) -> usize
-        requires { from + 8 ≤ places }
-        ensures { result ≡ place_in self.now.taken self.now.number self.now.member number member from 8 }
-    {
-        let behind = from + GROUP;
-        for place in from..behind {
-            if (self.number[place] == number) & (self.member[place] == member) {
-                if bit_of(self.taken[place / WORD_PLACES], place % WORD_PLACES) == 1 {
-                    return place;
-                }
-            }
-        }
-        behind
+        first_place(
+            |from: usize| -> bool
+                requires { from + 16 ≤ places }
+                ensures { result ≡ has_number self.entry.now.number number from 16 }
+            { holds(&self.number, from, number) },
+            |place: usize| -> bool
+                requires { place < places }
+                ensures { result ≡ is_sought self.entry.now.taken self.entry.now.number self.entry.now.member number member place }
+            {
+                (self.number[place] == number)
+                    & (self.member[place] == member)
+                    & (bit_of(self.taken[place / WORD_PLACES], place % WORD_PLACES) == 1)
+            },
+        )
     }
 }
 
 // Places that are looked at together.
-const GROUP: usize = 8;
+const GROUP: usize = 16;
 
-// Whether one of so many places from one on holds this: told together, so that the machine compares them at once.
-pub fn holds<T: Copy + PartialEq, const COUNT: usize>(
-    column: &[T; Place::COUNT],
-    from: usize,
-    x: T,
-) -> bool
-    requires { from + COUNT ≤ places }
-    ensures { result ≡ fold (λ found y. found || T.eq y x) false (slice_range column.now from (from + COUNT)) }
+// Whether one of these is this: told together, so that the machine compares them at once.
+fn any_is<T: Copy + PartialEq>(xs: &[T], x: T) -> bool
+    ensures { result ≡ fold (λ found y. found || T.eq y x) false xs.now }
+{
+    xs.iter().fold(false, |found, y| found | (*y == x))
+}
+
+// Whether one of sixteen places from one on holds this.
+pub fn holds<T: Held + PartialEq>(column: &[T; Place::COUNT], from: usize, x: T) -> bool
+    requires { from + 16 ≤ places }
+    ensures { result ≡ has_in T.eq T.empty column.now x from 16 }
 {
     let all = &column[..];
-    all[from..from + COUNT]
-        .iter()
-        .fold(false, |found, y| found | (*y == x))
+    any_is(&all[from..from + GROUP], x)
+}
+
+// The first place that is sought, or 512. Sixteen places are looked at together first: only where one of them may be sought is each asked.
+pub fn first_place<M: Fn(usize) -> bool + Drop, S: Fn(usize) -> bool + Drop>(
+    may: M,
+    sought: S,
+) -> usize
+    requires may_runs { (from : ℕ) → from + 16 ≤ places → M.pre may from }
+    requires sought_runs { (p : ℕ) → p < places → S.pre sought p }
+    requires may_says { (from p : ℕ) → from + 16 ≤ places → M.post may from false → from ≤ p → p < from + 16 → S.post sought p false }
+    ensures within { result ≤ places }
+    ensures found { result < places → S.post sought result true }
+    ensures none_before { (p : ℕ) → p < result → S.post sought p false }
+{
+    for group in 0..Place::COUNT / GROUP {
+        let from = group * GROUP;
+        if may(from) {
+            for place in from..from + GROUP {
+                if sought(place) {
+                    return place;
+                }
+            }
+        }
+    }
+    Place::COUNT
 }

@@ -1,5 +1,5 @@
 -- Order and quote of a desk from what their code learns on the way: the effect decides, and an accepted entry is no thirty-third member's.
-use Rattle.std.specs.Prelude.{ℕ, ◌+◌, ◌<◌, false, ◌≡◌, refl, List, leb, set, length}
+use Rattle.std.specs.Prelude.{ℕ, ◌+◌, ◌<◌, false, ◌≡◌, refl, List, leb, set, length, Result, Ok, Err}
 use Rattle.std.proofs.Common.{ap, ◌∙◌, leb-false, length-take-le, arith}
 use Rattle.terms.specs.Bounds.{places}
 use Rattle.terms.specs.Orders.{order_from}
@@ -9,12 +9,12 @@ use Rattle.terms.specs.declared.quote_terms.{QuoteEntry.QuoteEntry}
 use Rattle.places.specs.Places.{is_short, marked}
 use Rattle.book.specs.Columns.{stored}
 use Rattle.refusals.specs.Checks.{answered-map}
-use Rattle.effects.specs.declared.{Change.Change, Effect.Effect}
+use Rattle.effects.specs.declared.{Change.Change}
 use Rattle.effects.specs.Effects.{order_change, order_effect, order-not-beyond}
 use Rattle.entries.specs.Entry as plain
 use Rattle.entries.specs.Changes.{changed}
 use Rattle.quotes.specs.Quotes.{quote_places}
-use Rattle.effects.specs.declared.quoting.{QuoteChange.QuoteChange, QuoteEffect.QuoteEffect}
+use Rattle.effects.specs.declared.quoting.{QuoteChange.QuoteChange}
 use Rattle.effects.specs.QuoteEffects.{quote_change, quote_effect, quote-not-beyond}
 use Rattle.quotation.specs.declared.{Quoted.Quoted as plain_quoted}
 use Rattle.quotation.specs.Quote.{book_without}
@@ -44,35 +44,35 @@ pub entering-as : (d : Desk) (member : ℕ) {session session' : Session} {row co
 entering-as d member rows' s r rows count = rw (s, rows, count, r)
 
 -- what an order changes in a desk
-abbrev pub order_in : Desk → Entry → Effect
+abbrev pub order_in : Desk → Entry → Result Change ℕ
 order_in d e =
     let s = d.session in
     order_effect s.phase s.parameters (plain.control_reference s) (is_beyond d e.member) s.given s.book.taken e
 
 -- what the call returns, by the effect
-abbrev pub entered_by : Desk → Entry → Effect → Entered
-entered_by d e (Effect.Refused n) = order_refused d n
-entered_by d e (Effect.Done c) = record { answer = 0; number = c.given; desk = entering d e.member (changed d.session c) (set d.rows c.place (row_in d e.member)) }
+abbrev pub entered_by : Desk → Entry → Result Change ℕ → Entered
+entered_by d e (Err n) = order_refused d n
+entered_by d e (Ok c) = record { answer = 0; number = c.given; desk = entering d e.member (changed d.session c) (set d.rows c.place (row_in d e.member)) }
 
 pub entered_by_lem : (d : Desk) (e : Entry) → entered_by d e (order_in d e) ≡ entered d e
 unfolding entered order_effect stored marked
-entered_by_lem d e = answered-map (entered_by d e) (order_checks d e) Effect.Refused (Effect.Done (order_change (d.session.given + 1) d.session.book.taken (order_from e)))
+entered_by_lem d e = answered-map (entered_by d e) (order_checks d e) Err (Ok (order_change (d.session.given + 1) d.session.book.taken (order_from e)))
 
 -- an accepted one has a row of the square
-pub order_row : (d : Desk) → SoundDesk d → (e : Entry) {c : Change} → order_in d e ≡ Effect.Done c → row_in d e.member < square_members
+pub order_row : (d : Desk) → SoundDesk d → (e : Entry) {c : Change} → order_in d e ≡ Ok c → row_in d e.member < square_members
 order_row d sound e h =
     let s = d.session in
     leb-false square_members (row_in d e.member) (beyond-is d sound e.member ∙ order-not-beyond s.phase s.parameters (plain.control_reference s) (is_beyond d e.member) s.given s.book.taken e h)
 
 -- what a quote changes in a desk
-abbrev pub quote_in : Desk → QuoteEntry → QuoteEffect
+abbrev pub quote_in : Desk → QuoteEntry → Result QuoteChange ℕ
 quote_in d e =
     let s = d.session in
     quote_effect s.phase s.parameters (plain.control_reference s) (is_beyond d e.member) s.given s.book.taken (old_in s e.member) e
 
-abbrev pub quoted_by : Desk → QuoteEntry → QuoteEffect → Quoted
-quoted_by d e (QuoteEffect.Refused n) = quote_refused d n
-quoted_by d e (QuoteEffect.Done c) = record {
+abbrev pub quoted_by : Desk → QuoteEntry → Result QuoteChange ℕ → Quoted
+quoted_by d e (Err n) = quote_refused d n
+quoted_by d e (Ok c) = record {
   answer = 0;
   bid = c.bid.number;
   ask = c.ask.number;
@@ -86,17 +86,17 @@ quoted-by d sound e =
     (by-places d.session e (is_beyond d e.member) (quoted_by d e) (quote_refused d) (quote_done d e) (λ n. refl) done)
   where
     done : is_short (book_without d.session e).taken ≡ false
-        → quoted_by d e (QuoteEffect.Done (quote_change d.session.given d.session.book.taken (quote_places e.member d.session.book) (quote_from e))) ≡ quote_done d e
+        → quoted_by d e (Ok (quote_change d.session.given d.session.book.taken (quote_places e.member d.session.book) (quote_from e))) ≡ quote_done d e
     done h =
         let same = ap (λ (r : plain_quoted). r.session) (requoted-is d.session e h) in
         rw (same, fresh-is d.session e h)
 
 -- an accepted one has a row of the square, and stands at places
-pub quote-row : (d : Desk) → SoundDesk d → (e : QuoteEntry) {c : QuoteChange} → quote_in d e ≡ QuoteEffect.Done c → row_in d e.member < square_members
+pub quote-row : (d : Desk) → SoundDesk d → (e : QuoteEntry) {c : QuoteChange} → quote_in d e ≡ Ok c → row_in d e.member < square_members
 quote-row d sound e h =
     let s = d.session in
     leb-false square_members (row_in d e.member)
     (beyond-is d sound e.member ∙ quote-not-beyond s.phase s.parameters (plain.control_reference s) (is_beyond d e.member) s.given s.book.taken (old_in s e.member) e h)
 
-pub quote-placed : (d : Desk) (e : QuoteEntry) {c : QuoteChange} → quote_in d e ≡ QuoteEffect.Done c → (c.fresh.bid < places) × (c.fresh.ask < places)
+pub quote-placed : (d : Desk) (e : QuoteEntry) {c : QuoteChange} → quote_in d e ≡ Ok c → (c.fresh.bid < places) × (c.fresh.ask < places)
 quote-placed d e = placed d.session e (is_beyond d e.member) (old_in d.session e.member)

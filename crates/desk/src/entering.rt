@@ -7,18 +7,11 @@ ghost use Rattle.desk.specs.Sound.{SoundDesk};
 
 use crate::{Desk, Entered, Quoted};
 use book::put;
-use effects::{Effect, QuoteEffect, order_effect, quote_effect};
+use effects::{order_effect, quote_effect};
 use quotation::old_pair;
 use quotes::requote;
 use squares::{MEMBERS, row_of};
 use terms::{Entry, QuoteEntry};
-
-fn narrow(row: usize) -> u8
-    requires { row < square_members }
-    ensures { result ≡ row }
-{
-    row as u8
-}
 
 // How many members are entered once one with this row is.
 fn count_with(count: usize, row: usize) -> usize
@@ -38,10 +31,9 @@ pub fn order(mut desk: Desk, e: Entry) -> Entered
     ensures { result ≡ calls_entered desk e }
 {
     let row = row_of(&desk.members, desk.count, e.member);
-    let phase = desk.session.phase;
     let parameters = desk.session.parameters;
     let effect = order_effect(
-        phase,
+        desk.session.phase,
         parameters,
         parameters.reference,
         MEMBERS <= row,
@@ -50,16 +42,15 @@ pub fn order(mut desk: Desk, e: Entry) -> Entered
         e,
     );
     match effect {
-        Effect::Refused(answer) => Entered {
-            answer,
+        Err(refusal) => Entered {
+            answer: u8::from(refusal),
             number: 0,
             desk,
         },
-        Effect::Done(c) => {
-            let place = c.place;
+        Ok(c) => {
             desk.session.given = c.given;
-            desk.session.book.write(place, c.word, c.values);
-            put(&mut desk.rows, place, narrow(row));
+            desk.session.book.write(c.place, c.word, c.values);
+            put(&mut desk.rows, c.place, row as u8);
             desk.members[row] = e.member;
             desk.count = count_with(desk.count, row);
             Entered {
@@ -77,11 +68,10 @@ pub fn quote(mut desk: Desk, e: QuoteEntry) -> Quoted
     ensures { result ≡ calls_quoted desk e }
 {
     let row = row_of(&desk.members, desk.count, e.member);
-    let phase = desk.session.phase;
     let parameters = desk.session.parameters;
     let old = old_pair(&desk.session.book, e.member);
     let effect = quote_effect(
-        phase,
+        desk.session.phase,
         parameters,
         parameters.reference,
         MEMBERS <= row,
@@ -91,26 +81,23 @@ pub fn quote(mut desk: Desk, e: QuoteEntry) -> Quoted
         e,
     );
     match effect {
-        QuoteEffect::Refused(answer) => Quoted {
-            answer,
+        Err(refusal) => Quoted {
+            answer: u8::from(refusal),
             bid: 0,
             ask: 0,
             desk,
         },
-        QuoteEffect::Done(c) => {
-            let fresh = c.fresh;
-            let bid = c.bid;
-            let ask = c.ask;
+        Ok(c) => {
             desk.session.given = c.given;
-            requote(&mut desk.session.book, c.old, fresh, bid, ask);
-            put(&mut desk.rows, fresh.bid, narrow(row));
-            put(&mut desk.rows, fresh.ask, narrow(row));
+            requote(&mut desk.session.book, c.old, c.fresh, c.bid, c.ask);
+            put(&mut desk.rows, c.fresh.bid, row as u8);
+            put(&mut desk.rows, c.fresh.ask, row as u8);
             desk.members[row] = e.member;
             desk.count = count_with(desk.count, row);
             Quoted {
                 answer: 0,
-                bid: bid.number,
-                ask: ask.number,
+                bid: c.bid.number,
+                ask: c.ask.number,
                 desk,
             }
         }

@@ -1,5 +1,5 @@
 -- A change stored in a session; and that what an order and a deletion change is what the calls leave.
-use Rattle.std.specs.Prelude.{ℕ, ◌+◌, ◌/◌, false, not, ◌≡◌, List, set}
+use Rattle.std.specs.Prelude.{ℕ, ◌+◌, ◌/◌, false, not, ◌≡◌, List, set, Result, Ok, Err}
 use Rattle.terms.specs.Bounds.{places}
 use Rattle.terms.specs.Kinds.{is_place}
 use Rattle.terms.specs.Orders.{order_from}
@@ -10,7 +10,7 @@ use Rattle.book.specs.Resting.{place_of, is_of, place_in, place-in}
 use Rattle.book.specs.ByPlace.{any-resting}
 use Rattle.refusals.specs.Checks.{answered-map}
 use Rattle.refusals.specs.Rows.{delete_rows}
-use Rattle.effects.specs.declared.{Change.Change, Effect.Effect}
+use Rattle.effects.specs.declared.{Change.Change}
 use Rattle.effects.specs.Effects.{order_change, order_effect, delete_change, delete_effect}
 use Rattle.session.specs.declared.{Session.Session}
 use Rattle.entries.specs.declared.{Entered.Entered, Deleted.Deleted}
@@ -30,25 +30,25 @@ pub stored-as : (s : Session) (c : Change) {taken number member side validity le
 stored-as s c a b d e f g h i = rw (a, b, d, e, f, g, h, i)
 
 -- what an order and a deletion change in a session
-abbrev pub order_in : Session → Entry → Effect
+abbrev pub order_in : Session → Entry → Result Change ℕ
 order_in s e = order_effect s.phase s.parameters (control_reference s) false s.given s.book.taken e
 
-abbrev pub delete_in : Session → ℕ → ℕ → Effect
+abbrev pub delete_in : Session → ℕ → ℕ → Result Change ℕ
 delete_in s number member = delete_effect s.phase s.given s.book.taken (place_in s.book.taken s.book.number s.book.member number member 0 places) number member
 
 -- what the calls return, by the effect
-abbrev pub entered_by : Session → Effect → Entered
-entered_by s (Effect.Refused n) = record { answer = n; number = 0; session = s }
-entered_by s (Effect.Done c) = record { answer = 0; number = c.given; session = changed s c }
+abbrev pub entered_by : Session → Result Change ℕ → Entered
+entered_by s (Err n) = record { answer = n; number = 0; session = s }
+entered_by s (Ok c) = record { answer = 0; number = c.given; session = changed s c }
 
-abbrev pub deleted_by : Session → Effect → Deleted
-deleted_by s (Effect.Refused n) = record { answer = n; session = s }
-deleted_by s (Effect.Done c) = record { answer = 0; session = changed s c }
+abbrev pub deleted_by : Session → Result Change ℕ → Deleted
+deleted_by s (Err n) = record { answer = n; session = s }
+deleted_by s (Ok c) = record { answer = 0; session = changed s c }
 
 -- what an order does is what the call returns
 pub entered_by_lem : (s : Session) (e : Entry) → entered_by s (order_in s e) ≡ entered s e
 unfolding entered order_effect stored marked
-entered_by_lem s e = answered-map (entered_by s) (order_checks s e) Effect.Refused (Effect.Done (order_change (s.given + 1) s.book.taken (order_from e)))
+entered_by_lem s e = answered-map (entered_by s) (order_checks s e) Err (Ok (order_change (s.given + 1) s.book.taken (order_from e)))
 
 -- .. and a deletion
 module _ (s : Session) (number member : ℕ) where
@@ -59,4 +59,4 @@ module _ (s : Session) (number member : ℕ) where
   unfolding deleted delete_effect cleared unmarked
   deleted-by =
       rw (delete-rows, place-in s.book number member)
-      (answered-map (deleted_by s) (delete_checks s number member) Effect.Refused (Effect.Done (delete_change s.given s.book.taken (place_of (is_of number member) s.book))))
+      (answered-map (deleted_by s) (delete_checks s number member) Err (Ok (delete_change s.given s.book.taken (place_of (is_of number member) s.book))))

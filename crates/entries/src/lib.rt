@@ -10,9 +10,10 @@ ghost use Rattle.entries.specs.Entry.{started, entered as entry_entered, deleted
 
 pub use changes::changed;
 use controls::Phase;
-use effects::{Effect, delete_effect, order_effect};
+use effects::{delete_effect, order_effect};
+use refusals::Refusal;
 use session::Session;
-use terms::{Entry, Parameters, ParametersMade, Start};
+use terms::{Entry, Parameters, Start};
 
 #[derive(Clone, Copy)]
 pub struct Started {
@@ -38,26 +39,22 @@ pub fn start(session: Session, start: Start) -> Started
     requires { Sound session }
     ensures { result ≡ started session start }
 {
-    let ParametersMade::Good(parameters) = Parameters::new(start) else {
-        return Started { answer: 1, session };
+    let Ok(parameters) = Parameters::try_from(start) else {
+        let answer = u8::from(Refusal::OutOfRange);
+        return Started { answer, session };
     };
-    let phase = session.phase;
-    if controls::has_started(phase) {
-        return Started { answer: 3, session };
+    if controls::has_started(session.phase) {
+        let answer = u8::from(Refusal::Started);
+        return Started { answer, session };
     }
-    let book = session.book;
-    let reference = parameters.reference;
-    let begun = Session {
-        phase: Phase::PreOpening,
-        delayed: session.delayed,
-        parameters,
-        reference,
-        given: session.given,
-        book,
-    };
     Started {
         answer: 0,
-        session: begun,
+        session: Session {
+            phase: Phase::PreOpening,
+            parameters,
+            reference: parameters.reference,
+            ..session
+        },
     }
 }
 
@@ -66,10 +63,9 @@ pub fn order(session: Session, e: Entry) -> Entered
     requires { Sound session }
     ensures { result ≡ entry_entered session e }
 {
-    let phase = session.phase;
     let parameters = session.parameters;
     let effect = order_effect(
-        phase,
+        session.phase,
         parameters,
         parameters.reference,
         false,
@@ -78,12 +74,12 @@ pub fn order(session: Session, e: Entry) -> Entered
         e,
     );
     match effect {
-        Effect::Refused(answer) => Entered {
-            answer,
+        Err(refusal) => Entered {
+            answer: u8::from(refusal),
             number: 0,
             session,
         },
-        Effect::Done(c) => Entered {
+        Ok(c) => Entered {
             answer: 0,
             number: c.given,
             session: changed(session, c),
@@ -96,10 +92,9 @@ pub fn delete(session: Session, number: u32, member: u16) -> Deleted
     requires { Sound session }
     ensures { result ≡ entry_deleted session number member }
 {
-    let phase = session.phase;
     let place = session.book.place_of(number, member);
     let effect = delete_effect(
-        phase,
+        session.phase,
         session.given,
         &session.book.taken,
         place,
@@ -107,8 +102,11 @@ pub fn delete(session: Session, number: u32, member: u16) -> Deleted
         member,
     );
     match effect {
-        Effect::Refused(answer) => Deleted { answer, session },
-        Effect::Done(c) => Deleted {
+        Err(refusal) => Deleted {
+            answer: u8::from(refusal),
+            session,
+        },
+        Ok(c) => Deleted {
             answer: 0,
             session: changed(session, c),
         },

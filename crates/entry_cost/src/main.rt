@@ -3,11 +3,13 @@
 // counts the instructions.
 #![tactic(auto)]
 
+ghost use Rattle.std.specs.Prelude.{◌≤◌, length};
 ghost use Rattle.session.specs.Sound.{Sound};
+ghost use Rattle.terms.specs.Bounds.{places};
 
 use calls::Session;
 use std::io::Read;
-use terms::{Entry, OneStep, Place, QuoteEntry, Side, SideEntry, Validity};
+use terms::{Entry, OneStep, QuoteEntry, Side, SideEntry, Validity};
 
 const ORDERS: u32 = 509;
 
@@ -99,7 +101,9 @@ fn one_more(session: Session, byte: u8) -> LastCall
     }
 }
 
-fn open_quantity(left: &[u32; Place::COUNT]) -> u64 {
+fn open_quantity(left: &[u32]) -> u64
+    requires { length left.now ≤ places }
+{
     left.iter().map(|quantity| u64::from(*quantity)).sum()
 }
 

@@ -1,5 +1,5 @@
 -- A quote as the code computes it: from where the old sides stand, the new ones put in their stead, column by column.
-use Rattle.std.specs.Prelude.{ℕ, ◌+◌, ◌<◌, Bool, refl}
+use Rattle.std.specs.Prelude.{ℕ, ◌+◌, ◌<◌, Bool, refl, Result, Ok, Err}
 use Rattle.std.proofs.Math.Bool.{false}
 use Rattle.std.proofs.Math.Path.{◌≡◌, subst}
 use Rattle.std.proofs.Common.{sym, ap, ◌∙◌, arith, lt-ltb}
@@ -18,7 +18,7 @@ use Rattle.quotes.specs.Without.{quote-place-in, without-taken, requoted-stored}
 use Rattle.refusals.specs.Checks.{Check, first_hit, answered, answered-refused, answered-done, answered-cases}
 use Rattle.refusals.specs.Rows.{quote_rows}
 use Rattle.refusals.specs.Exactly.{clear}
-use Rattle.effects.specs.declared.quoting.{QuoteChange.QuoteChange, QuoteEffect.QuoteEffect}
+use Rattle.effects.specs.declared.quoting.{QuoteChange.QuoteChange}
 use Rattle.effects.specs.QuoteEffects.{freed_words, fresh_pair, quote_change, quote_effect, fresh-places}
 use Rattle.session.specs.declared.{Session.Session}
 use Rattle.session.specs.State.{with_book}
@@ -49,16 +49,16 @@ abbrev pub old_in : Session → ℕ → Pair
 old_in s member = old_pair s.book.quoted s.book.member s.book.side member
 
 -- what a quote changes in a session
-abbrev pub quote_in : Session → QuoteEntry → QuoteEffect
+abbrev pub quote_in : Session → QuoteEntry → Result QuoteChange ℕ
 quote_in s e = quote_effect s.phase s.parameters (control_reference s) false s.given s.book.taken (old_in s e.member) e
 
 -- what the call returns, by the effect
 abbrev pub quoted_with : Session → QuoteChange → Quoted
 quoted_with s c = record { answer = 0; bid = c.bid.number; ask = c.ask.number; session = requoted_in s c }
 
-abbrev pub quoted_by : Session → QuoteEffect → Quoted
-quoted_by s (QuoteEffect.Refused n) = quote_refused s n
-quoted_by s (QuoteEffect.Done c) = quoted_with s c
+abbrev pub quoted_by : Session → Result QuoteChange ℕ → Quoted
+quoted_by s (Err n) = quote_refused s n
+quoted_by s (Ok c) = quoted_with s c
 
 -- the columns say where they stand
 pub old-places : (s : Session) → Sound s → (member : ℕ) → old_in s member ≡ quote_places member s.book
@@ -98,16 +98,16 @@ module _ (s : Session) (e : QuoteEntry) where
       (rw (fresh-is h) (requoted-stored s.book old (record { bid = bid_place s e; ask = ask_place s e }) (bid_entered s e) (ask_entered s e) (bid-is-placed h) (ask-is-placed h)))
 
   -- by where the old sides stand, whether a thirty-third member's or not: what is returned by the effect is what the checks answer
-  module _ {A : Type 0} (beyond : Bool) (by : QuoteEffect → A) (refused : ℕ → A) (done : A) (refuses : (n : ℕ) → by (QuoteEffect.Refused n) ≡ refused n)
-      (does : is_short (book_without s e).taken ≡ false → by (QuoteEffect.Done (quote_change s.given s.book.taken old (quote_from e))) ≡ done) where
+  module _ {A : Type 0} (beyond : Bool) (by : Result QuoteChange ℕ → A) (refused : ℕ → A) (done : A) (refuses : (n : ℕ) → by (Err n) ≡ refused n)
+      (does : is_short (book_without s e).taken ≡ false → by (Ok (quote_change s.given s.book.taken old (quote_from e))) ≡ done) where
     abbrev checks : Bool → List Check
     checks few = quote_rows s.phase s.parameters (control_reference s) beyond s.given few e
 
     pub by-places : by (quote_effect s.phase s.parameters (control_reference s) beyond s.given s.book.taken old e) ≡ answered (checks (is_short (book_without s e).taken)) refused done
     unfolding quote_effect
     by-places =
-        answered-cases (checks (is_short (freed_words s.book.taken old))) QuoteEffect.Refused (QuoteEffect.Done (quote_change s.given s.book.taken old (quote_from e)))
-        (λ (f : QuoteEffect). by f ≡ answered (checks (is_short (book_without s e).taken)) refused done)
+        answered-cases (checks (is_short (freed_words s.book.taken old))) Err (Ok (quote_change s.given s.book.taken old (quote_from e)))
+        (λ (f : Result QuoteChange ℕ). by f ≡ answered (checks (is_short (book_without s e).taken)) refused done)
         (λ n h i. refuses n ∙ answered-refused (checks (is_short (book_without s e).taken)) refused done (i ∙ same) h)
         (λ i. does (clear (checks (is_short (book_without s e).taken)) tt (i ∙ same) 10) ∙ answered-done (checks (is_short (book_without s e).taken)) refused done (i ∙ same))
       where
@@ -120,16 +120,16 @@ unfolding quoted
 quoted-by s e sound = rw (old-places s sound e.member) (by-places s e false (quoted_by s) (quote_refused s) (quote_done s e) (λ n. refl) (requoted-is s e))
 
 -- .. and it stands at places
-abbrev fresh_of : QuoteEffect → Pair
-fresh_of (QuoteEffect.Refused n) = record { bid = 0; ask = 0 }
-fresh_of (QuoteEffect.Done c) = c.fresh
+abbrev fresh_of : Result QuoteChange ℕ → Pair
+fresh_of (Err n) = record { bid = 0; ask = 0 }
+fresh_of (Ok c) = c.fresh
 
 pub placed : (s : Session) (e : QuoteEntry) (beyond : Bool) (before : Pair) {c : QuoteChange}
-    → quote_effect s.phase s.parameters (control_reference s) beyond s.given s.book.taken before e ≡ QuoteEffect.Done c → (c.fresh.bid < places) × (c.fresh.ask < places)
+    → quote_effect s.phase s.parameters (control_reference s) beyond s.given s.book.taken before e ≡ Ok c → (c.fresh.bid < places) × (c.fresh.ask < places)
 unfolding quote_effect
 placed s e beyond before {c} =
-    answered-cases checks QuoteEffect.Refused (QuoteEffect.Done (quote_change s.given s.book.taken before (quote_from e)))
-    (λ (f : QuoteEffect). f ≡ QuoteEffect.Done c → (c.fresh.bid < places) × (c.fresh.ask < places))
+    answered-cases checks Err (Ok (quote_change s.given s.book.taken before (quote_from e)))
+    (λ (f : Result QuoteChange ℕ). f ≡ Ok c → (c.fresh.bid < places) × (c.fresh.ask < places))
     (λ n h i k. absurd (let z : ◌≡◌ {A = ℕ} 0 1 = cc in omega arith))
     (λ i k. let same : fresh_pair s.book.taken before ≡ c.fresh = ap fresh_of k in
     rw (← same) (fresh-places s.phase s.parameters (control_reference s) beyond s.given s.book.taken before e (clear checks tt i 10)))
@@ -137,5 +137,5 @@ placed s e beyond before {c} =
     checks : List Check
     checks = quote_rows s.phase s.parameters (control_reference s) beyond s.given (is_short (freed_words s.book.taken before)) e
 
-pub quote-placed : (s : Session) (e : QuoteEntry) {c : QuoteChange} → quote_in s e ≡ QuoteEffect.Done c → (c.fresh.bid < places) × (c.fresh.ask < places)
+pub quote-placed : (s : Session) (e : QuoteEntry) {c : QuoteChange} → quote_in s e ≡ Ok c → (c.fresh.bid < places) × (c.fresh.ask < places)
 quote-placed s e = placed s e false (old_in s e.member)

@@ -8,7 +8,7 @@ ghost use Rattle.quotation.specs.Quote.{quoted as quote_quoted};
 ghost use Rattle.quotation.specs.QuoteCall.{old_pair, requoted_in, quoted_with};
 
 use book::Book;
-use effects::{QuoteChange, QuoteEffect, quote_effect};
+use effects::{QuoteChange, quote_effect};
 use quotes::{Pair, quote_place, requote};
 use session::Session;
 use terms::{QuoteEntry, Side};
@@ -44,12 +44,10 @@ fn quote_done(session: Session, c: QuoteChange) -> Quoted
     requires { (c.fresh.bid < places) × (c.fresh.ask < places) }
     ensures { result ≡ quoted_with session c }
 {
-    let bid = c.bid;
-    let ask = c.ask;
     Quoted {
         answer: 0,
-        bid: bid.number,
-        ask: ask.number,
+        bid: c.bid.number,
+        ask: c.ask.number,
         session: requoted(session, c),
     }
 }
@@ -60,11 +58,10 @@ pub fn quote(session: Session, e: QuoteEntry) -> Quoted
     requires { Sound session }
     ensures { result ≡ quote_quoted session e }
 {
-    let phase = session.phase;
     let parameters = session.parameters;
     let old = old_pair(&session.book, e.member);
     let effect = quote_effect(
-        phase,
+        session.phase,
         parameters,
         parameters.reference,
         false,
@@ -74,12 +71,12 @@ pub fn quote(session: Session, e: QuoteEntry) -> Quoted
         e,
     );
     match effect {
-        QuoteEffect::Refused(answer) => Quoted {
-            answer,
+        Err(refusal) => Quoted {
+            answer: u8::from(refusal),
             bid: 0,
             ask: 0,
             session,
         },
-        QuoteEffect::Done(c) => quote_done(session, c),
+        Ok(c) => quote_done(session, c),
     }
 }

@@ -1,47 +1,31 @@
 // Quotes: where a side of a member's quote stands, and the columns with a quote in place of the old one (02 K2).
 ghost use Rattle.std.specs.Prelude.{◌≡◌, ◌<◌, ◌≤◌, ◌+◌};
-ghost use Rattle.quotes.specs.Quotes.{quote_place_in, emptied, requoted, requoted_words, requoted_book};
+ghost use Rattle.book.specs.Groups.{has_number};
+ghost use Rattle.quotes.specs.Quotes.{is_quote_in, quote_place_in, emptied, requoted, requoted_words, requoted_book};
 ghost use Rattle.terms.specs.Bounds.{places};
 
 use crate::Pair;
-use book::{Book, Held, Values, holds, put};
+use book::{Book, Held, Values, first_place, holds, put};
 use places::{WORDS, mark, unmark};
 use terms::Place;
-
-// Places that are looked at together.
-const GROUP: usize = 16;
-
-// The first of sixteen places from one on that holds a side of the member's quotes, or the place behind them.
-fn quote_in_group(book: &Book, member: u16, side: u8, from: usize) -> usize
-    requires { from + 16 ≤ places }
-    ensures { result ≡ quote_place_in book.now.quoted book.now.member book.now.side member side from 16 }
-{
-    let behind = from + GROUP;
-    for place in from..behind {
-        let is_side = book.quoted[place] == 1;
-        if is_side {
-            if (book.member[place] == member) & (book.side[place] == side) {
-                return place;
-            }
-        }
-    }
-    behind
-}
 
 // The first place that holds a side of the member's quotes, or 512. Free places hold none.
 pub fn quote_place(book: &Book, member: u16, side: u8) -> usize
     ensures { result ≡ quote_place_in book.now.quoted book.now.member book.now.side member side 0 places }
 {
-    for group in 0..Place::COUNT / GROUP {
-        let from = group * GROUP;
-        if holds::<u8, GROUP>(&book.quoted, from, 1) {
-            let found = quote_in_group(book, member, side, from);
-            if found < from + GROUP {
-                return found;
-            }
-        }
-    }
-    Place::COUNT
+    first_place(
+        |from: usize| -> bool
+            requires { from + 16 ≤ places }
+            ensures { result ≡ has_number book.entry.now.quoted 1 from 16 }
+        { holds(&book.quoted, from, 1) },
+        |place: usize| -> bool
+            requires { place < places }
+            ensures { result ≡ is_quote_in book.entry.now.quoted book.entry.now.member book.entry.now.side member side place }
+        {
+            let is_side = book.quoted[place] == 1;
+            is_side & ((book.member[place] == member) & (book.side[place] == side))
+        },
+    )
 }
 
 // A place of a column that is lent emptied; 512 is no place.

@@ -18,7 +18,7 @@ pub const MEMBERS: usize = 32;
 
 pub const CELLS: usize = MEMBERS * MEMBERS;
 
-// The row of a member: where it stands among those entered, or behind the last of them.
+// The row of a member: where it stands among those entered, or behind the last of them. Members and their count come as the desk has them: memory is fixed.
 pub fn row_of(members: &[u16; MEMBERS], entered: usize, member: u16) -> usize
     requires { (length members.now ≡ square_members) × (entered ≤ square_members) }
     ensures { result ≡ row_of (take entered members.now) member }
@@ -46,6 +46,7 @@ fn add_at(totals: &mut [u64; CELLS], cell: usize, quantity: u32)
 }
 
 // The quantities of the first trades of a list, whose sides are told by places, added to their cells.
+// With the count beside the list: cut to these trades, its clauses would say a quarter of its length for the count, and no line would be plainer.
 pub fn add_trades<'a>(
     totals: &mut [u64; CELLS],
     list: &'a [u32],
@@ -55,12 +56,10 @@ pub fn add_trades<'a>(
     requires { (length totals.old ≡ square_cells) × (4 * count ≤ length list.now) × Small rows.now × InBook (trades_read count list.now) × (total totals.old + volume (trades_read count list.now) < 2 ^ 64) }
     ensures { totals.new ≡ added_to (λ p. get_or rows.now p 0) (trades_read count list.now) totals.old }
 {
-    for i in 0..count {
-        let at = i * Trade::NUMBERS;
-        let buy = list[at] as usize;
-        let sell = list[at + 1] as usize;
-        let cell = cell_of(rows[buy], rows[sell]);
-        add_at(totals, cell, list[at + 2]);
+    let (trades, _) = list[..count * Trade::NUMBERS].as_chunks::<{ Trade::NUMBERS }>();
+    for &[buy, sell, quantity, _] in trades {
+        let cell = cell_of(rows[buy as usize], rows[sell as usize]);
+        add_at(totals, cell, quantity);
     }
 }
 

@@ -1,5 +1,6 @@
 -- Made: what a constructor's answer says of the numbers that it was given, and what is made one by one.
 use Rattle.std.specs.Prelude.{ℕ, zero, suc, Bool, true, false, cond, ◌&&◌, ◌≡◌, refl, T, leb, Ok, Err}
+use Rattle.std.specs.Result.{is_ok}
 use Rattle.lists.specs.Tests.{tests, and_both, and_intro}
 use Rattle.terms.specs.Kinds.{out_of_range, is_member, member_of, is_quantity, is_number, number_of, is_price, is_factor, is_threshold, is_order_value}
 use Rattle.terms.specs.Orders.{side_number, validity_number, limit_number, is_side, side_from, side_of, is_auction, auction_from, auction_of, is_validity, validity_from, is_limit, limit_from, is_entry, order_from, order_of}
@@ -20,6 +21,23 @@ made false e = absurd cc
 not_made : {A : Type 0} (b : Bool) (good : A) → Err out_of_range ≡ cond b (Ok good) (Err out_of_range) → b ≡ false
 not_made true good e = absurd cc
 not_made false good e = refl
+
+-- .. and it is made exactly where the test holds
+ok-made : {A : Type 0} (b : Bool) (good : A) → is_ok (cond b (Ok good) (Err out_of_range)) ≡ b
+ok-made true good = refl
+ok-made false good = refl
+
+pub order-ok : (e : Entry) → is_ok (order_of e) ≡ is_entry e
+unfolding order_of
+order-ok e = ok-made (is_entry e) _
+
+pub quote-ok : (e : QuoteEntry) → is_ok (quote_of e) ≡ is_quote e
+unfolding quote_of
+quote-ok e = ok-made (is_quote e) _
+
+pub parameters-ok : (s : Start) → is_ok (parameters_of s) ≡ is_start s
+unfolding parameters_of
+parameters-ok s = ok-made (is_start s) _
 
 pub side-good : (x : ℕ) {s : Side} → Ok s ≡ side_of x → (is_side x ≡ true) × (s ≡ side_from x)
 side-good x e = made (is_side x) e

@@ -1,6 +1,6 @@
 -- What a record does to the session that is told: an answer with nothing or with a change at a place, or a call. Its trades are few, its lines have room,
 -- the session after it is sound; and what its writing promises.
-use Rattle.std.specs.Prelude.{ℕ, ◌+◌, ◌*◌, ◌≤◌, ◌<◌, false, ◌≡◌, refl, List, [], length}
+use Rattle.std.specs.Prelude.{ℕ, ◌+◌, ◌*◌, ◌≤◌, ◌<◌, false, ◌≡◌, refl, List, [], length, Result, Ok, Err}
 use Rattle.std.proofs.Common.{sym, ap, ◌∙◌, append-nil, arith, length-append}
 use Rattle.terms.specs.Bounds.{places, max_trades, trade_list_length}
 use Rattle.terms.specs.Orders.{auction_from}
@@ -30,9 +30,9 @@ use Rattle.transcript.specs.Transcript.{Step, step, step_lines, lent, order_step
 use Rattle.terms.specs.declared.kinds.{Price.Price}
 use Rattle.terms.specs.declared.parameters.{Start.Start, Parameters.Parameters}
 use Rattle.controls.specs.declared.phases.{Phase.Phase}
-use Rattle.effects.specs.declared.{Change.Change, Effect.Effect}
+use Rattle.effects.specs.declared.{Change.Change}
 use Rattle.effects.specs.Effects.{order_effect, delete_effect, order-place, order-plain, delete-place, delete-plain}
-use Rattle.effects.specs.declared.quoting.{QuoteChange.QuoteChange, QuoteEffect.QuoteEffect}
+use Rattle.effects.specs.declared.quoting.{QuoteChange.QuoteChange}
 use Rattle.effects.specs.QuoteEffects.{quote_effect, TwoSides, two-sides}
 use Rattle.entries.specs.Entry.{control_reference, entered, deleted}
 use Rattle.quotation.specs.Quote.{quoted}
@@ -92,17 +92,19 @@ step-sound s (Record.Auction which) h = auctioned-sound s which lent h
 step-sound s (Record.Quote e) h = quoted-sound s e h
 step-sound s (Record.Bands p) h = started-sound s p h
 
-abbrev pub order_doing : Effect → Doing
-order_doing (Effect.Refused n) = Doing.Refused Word.Order n
-order_doing (Effect.Done c) = Doing.Done Word.Order c
+abbrev pub change_doing : Word → Result Change ℕ → Doing
+change_doing word (Err n) = Doing.Refused word n
+change_doing word (Ok c) = Doing.Done word c
 
-abbrev pub delete_doing : Effect → Doing
-delete_doing (Effect.Refused n) = Doing.Refused Word.Delete n
-delete_doing (Effect.Done c) = Doing.Done Word.Delete c
+abbrev pub order_doing : Result Change ℕ → Doing
+order_doing = change_doing Word.Order
 
-abbrev pub quote_doing : QuoteEffect → Doing
-quote_doing (QuoteEffect.Refused n) = Doing.Refused Word.Quote n
-quote_doing (QuoteEffect.Done c) = Doing.Quoted c
+abbrev pub delete_doing : Result Change ℕ → Doing
+delete_doing = change_doing Word.Delete
+
+abbrev pub quote_doing : Result QuoteChange ℕ → Doing
+quote_doing (Err n) = Doing.Refused Word.Quote n
+quote_doing (Ok c) = Doing.Quoted c
 
 -- one side of a quote for a member at most, and those that rest are hinted at
 pub record QuotesKnown (quoted members sides bids asks : List ℕ) : Type 0 where
@@ -138,18 +140,18 @@ Does s r Doing.Bands = (p : Start) × (r ≡ Record.Bands p)
 pub does : (s : Session) → Sound s → (r : Record) → Does s r (doing_in s r)
 does s sound (Record.Start p) = refl
 does s sound (Record.Order e) = go (order_in s e) (entered_by_lem s e) (λ c h. (order-place s.phase s.parameters (control_reference s) false s.given s.book.taken e h, order-plain s.phase s.parameters (control_reference s) false s.given s.book.taken e h)) where
-  go : (f : Effect) → entered_by s f ≡ entered s e → ((c : Change) → f ≡ Effect.Done c → (c.place < places) × (c.values.quoted ≡ 0)) → Does s (Record.Order e) (order_doing f)
-  go (Effect.Refused n) h p = ap order_step h
-  go (Effect.Done c) h p = (ap order_step h, (p c refl).0, (p c refl).1)
+  go : (f : Result Change ℕ) → entered_by s f ≡ entered s e → ((c : Change) → f ≡ Ok c → (c.place < places) × (c.values.quoted ≡ 0)) → Does s (Record.Order e) (order_doing f)
+  go (Err n) h p = ap order_step h
+  go (Ok c) h p = (ap order_step h, (p c refl).0, (p c refl).1)
 does s sound (Record.Delete d) = go (delete_in s d.number d.member) (deleted-by s d.number d.member) (λ c h. (delete-place s.phase s.given s.book.taken _ d.number d.member h, delete-plain s.phase s.given s.book.taken _ d.number d.member h)) where
-  go : (f : Effect) → deleted_by s f ≡ deleted s d.number d.member → ((c : Change) → f ≡ Effect.Done c → (c.place < places) × (c.values.quoted ≡ 0)) → Does s (Record.Delete d) (delete_doing f)
-  go (Effect.Refused n) h p = ap delete_step h
-  go (Effect.Done c) h p = (ap delete_step h, (p c refl).0, (p c refl).1)
+  go : (f : Result Change ℕ) → deleted_by s f ≡ deleted s d.number d.member → ((c : Change) → f ≡ Ok c → (c.place < places) × (c.values.quoted ≡ 0)) → Does s (Record.Delete d) (delete_doing f)
+  go (Err n) h p = ap delete_step h
+  go (Ok c) h p = (ap delete_step h, (p c refl).0, (p c refl).1)
 does s sound (Record.Auction which) = refl
 does s sound (Record.Quote e) = go (quote_in s e) (quoted-by s e sound) (λ c h. (quote-placed s e h, two-sides s.phase s.parameters (control_reference s) false s.given s.book.taken (old_in s e.member) e h)) where
-  go : (f : QuoteEffect) → quoted_by s f ≡ quoted s e → ((c : QuoteChange) → f ≡ QuoteEffect.Done c → ((c.fresh.bid < places) × (c.fresh.ask < places)) × TwoSides c) → Does s (Record.Quote e) (quote_doing f)
-  go (QuoteEffect.Refused n) h p = ap quote_step h
-  go (QuoteEffect.Done c) h p = (ap quote_step h, (p c refl).0, (p c refl).1)
+  go : (f : Result QuoteChange ℕ) → quoted_by s f ≡ quoted s e → ((c : QuoteChange) → f ≡ Ok c → ((c.fresh.bid < places) × (c.fresh.ask < places)) × TwoSides c) → Does s (Record.Quote e) (quote_doing f)
+  go (Err n) h p = ap quote_step h
+  go (Ok c) h p = (ap quote_step h, (p c refl).0, (p c refl).1)
 does s sound (Record.Bands p) = (p, refl)
 
 -- .. found from the parts

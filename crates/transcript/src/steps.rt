@@ -2,48 +2,41 @@
 ghost use Rattle.std.specs.Prelude.{◌≡◌, ◌+◌, ◌≤◌, length};
 ghost use Rattle.terms.specs.Bounds.{trade_list_length};
 ghost use Rattle.records.specs.BandsRead.{BandsAt, record_in};
+ghost use Rattle.refusals.specs.Numbers.{numbered_answer};
 ghost use Rattle.book.specs.Hints.{Numbered};
 ghost use Rattle.session.specs.Sound.{Sound};
 ghost use Rattle.lines.specs.Lengths.{line_room};
 ghost use Rattle.quotation.specs.QuoteCall.{old_pair};
 ghost use Rattle.transcript.specs.Transcript.{auction_line, step};
-ghost use Rattle.transcript.specs.Steps.{record_room, WroteStep, order_doing, delete_doing, quote_doing, QuotesKnown, doing_of};
+ghost use Rattle.transcript.specs.Steps.{record_room, WroteStep, change_doing, quote_doing, QuotesKnown, doing_of};
 
 use crate::{Doing, Stepped};
 use book::{Book, HINTS};
 use calls::AuctionAnswer;
 use controls::Phase;
-use effects::{Effect, QuoteEffect, delete_effect, order_effect, quote_effect};
+use effects::{Change, QuoteChange, delete_effect, order_effect, quote_effect};
 use lines::{Line, Word, line_of, trade_lines};
 use quotes::{Pair, QUOTE_HINTS, quote_place_by_hint};
 use records::{Record, bands_from};
+use refusals::Refusal;
 use session::Session;
 use terms::{OneStep, Parameters, Price, Side, Start};
 
-fn order_doing(effect: Effect) -> Doing
-    ensures { result ≡ order_doing effect }
+fn change_doing(word: Word, effect: Result<Change, Refusal>) -> Doing
+    ensures { result ≡ change_doing word (numbered_answer effect) }
 {
     match effect {
-        Effect::Refused(answer) => Doing::Refused(Word::Order, answer as u64),
-        Effect::Done(c) => Doing::Done(Word::Order, c),
+        Err(refusal) => Doing::Refused(word, u64::from(u8::from(refusal))),
+        Ok(c) => Doing::Done(word, c),
     }
 }
 
-fn delete_doing(effect: Effect) -> Doing
-    ensures { result ≡ delete_doing effect }
+fn quote_doing(effect: Result<QuoteChange, Refusal>) -> Doing
+    ensures { result ≡ quote_doing (numbered_answer effect) }
 {
     match effect {
-        Effect::Refused(answer) => Doing::Refused(Word::Delete, answer as u64),
-        Effect::Done(c) => Doing::Done(Word::Delete, c),
-    }
-}
-
-fn quote_doing(effect: QuoteEffect) -> Doing
-    ensures { result ≡ quote_doing effect }
-{
-    match effect {
-        QuoteEffect::Refused(answer) => Doing::Refused(Word::Quote, answer as u64),
-        QuoteEffect::Done(c) => Doing::Quoted(c),
+        Err(refusal) => Doing::Refused(Word::Quote, u64::from(u8::from(refusal))),
+        Ok(c) => Doing::Quoted(c),
     }
 }
 
@@ -74,18 +67,16 @@ pub(crate) fn doing_of(
 {
     match asked {
         Record::Start(p) => Doing::Start(p),
-        Record::Order(e) => order_doing(order_effect(
-            phase,
-            parameters,
-            reference,
-            false,
-            given,
-            &book.taken,
-            e,
-        )),
+        Record::Order(e) => change_doing(
+            Word::Order,
+            order_effect(phase, parameters, reference, false, given, &book.taken, e),
+        ),
         Record::Delete(d) => {
             let place = book.place_by_hint(hints, given, d.number, d.member);
-            delete_doing(delete_effect(phase, given, &book.taken, place, d.number, d.member))
+            change_doing(
+                Word::Delete,
+                delete_effect(phase, given, &book.taken, place, d.number, d.member),
+            )
         }
         Record::Auction(which) => Doing::Auction(which),
         Record::Quote(e) => {

@@ -6,4 +6,4 @@ use Rattle.auction_cost.proofs.filled.Goals as goal
 
 pub loop-i-preserved : goal.loop-i-preserved
 loop-i-preserved c =
-    (subst (λ (r : Entered). Sound r.session) (sym c.order-r.ensures) (entered-sound _ _ c.loop-i.invariant.0), c.next-x.ensures)
+    (subst (λ (r : Entered). Sound r.session) (sym c.order.ensures) (entered-sound _ _ c.loop-i.invariant.0), c.next-x.ensures)

@@ -7,7 +7,7 @@ use Rattle.desk_cost.proofs.filled.Goals as goal
 
 pub loop-i-preserved : goal.loop-i-preserved
 loop-i-preserved c =
-    (subst (λ (r : Entered). SoundDesk r.desk) (sym c.order-r.ensures) (entered-desk-sound _ _ c.loop-i.invariant.0), c.next-x.ensures)
+    (subst (λ (r : Entered). SoundDesk r.desk) (sym c.order.ensures) (entered-desk-sound _ _ c.loop-i.invariant.0), c.next-x.ensures)
 
 pub returns : goal.returns
-returns c = subst (λ (r : Quoted). SoundDesk r.desk) (sym c.quote-r.ensures) (quoted-desk-sound _ _ c.loop-i.invariant.0)
+returns c = subst (λ (r : Quoted). SoundDesk r.desk) (sym c.quote.ensures) (quoted-desk-sound _ _ c.loop-i.invariant.0)

@@ -4,10 +4,10 @@ use Rattle.desk.specs.SoundAfter.{fresh-desk-sound, started-desk-sound}
 use Rattle.desk.specs.declared.Started.{Started}
 use Rattle.desk_cost.proofs.started.Goals as goal
 
-pub start-r-requires : goal.start-r-requires
-start-r-requires c = subst SoundDesk (sym c.fresh-fresh.ensures) fresh-desk-sound
+pub start-requires : goal.start-requires
+start-requires c = subst SoundDesk (sym c.fresh-fresh.ensures) fresh-desk-sound
 
 pub returns : goal.returns
 returns c =
-    subst (λ (r : Started). SoundDesk r.desk) (sym c.start-r.ensures)
+    subst (λ (r : Started). SoundDesk r.desk) (sym c.start.ensures)
     (started-desk-sound _ _ (subst SoundDesk (sym c.fresh-fresh.ensures) fresh-desk-sound))

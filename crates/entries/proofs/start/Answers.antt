@@ -4,13 +4,13 @@ use Rattle.entries.specs.StartCall.{start-out-of-range, start-again, start-begun
 use Rattle.entries.proofs.start.Goals as goal
 
 pub returns-in_default : goal.returns-in_default
-returns-in_default c = let a = c.args in
-    start-out-of-range a.session a.start (parameters-refused a.start (sym c.in_default.is ∙ c.new.ensures))
+returns-in_default c = rw c.from-answer.ensures (start-out-of-range c.args.session c.args.start (parameters-refused c.args.start c.in_default.ensures))
 
 pub returns-then-has_started : goal.returns-then-has_started
-returns-then-has_started c = let a = c.args in
-    start-again a.session a.start (parameters-good a.start (sym c.in-Good.is ∙ c.new.ensures)) (sym c.has_started.ensures ∙ c.if-has_started.true)
+returns-then-has_started c =
+    let a = c.args in
+    rw c.from-answer-then-has_started.ensures
+    (start-again a.session a.start (parameters-good a.start c.in-Ok.ensures) (sym c.has_started.ensures ∙ c.if-has_started.true))
 
 pub returns : goal.returns
-returns c = let a = c.args in
-    start-begun a.session a.start (parameters-good a.start (sym c.in-Good.is ∙ c.new.ensures)) (sym c.has_started.ensures ∙ c.if-has_started.false)
+returns c = let a = c.args in start-begun a.session a.start (parameters-good a.start c.in-Ok.ensures) (sym c.has_started.ensures ∙ c.if-has_started.false)

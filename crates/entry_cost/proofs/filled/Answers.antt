@@ -6,8 +6,8 @@ use Rattle.quotation.specs.QuoteSound.{quoted-sound}
 use Rattle.quotation.specs.declared.Quoted.{Quoted}
 use Rattle.entry_cost.proofs.filled.Goals as goal
 
-pub loop-i-preserved : goal.loop-i-preserved
-loop-i-preserved c = subst (λ (r : Entered). Sound r.session) (sym c.order-r.ensures) (entered-sound _ _ c.loop-i.invariant)
+pub loop-preserved : goal.loop-preserved
+loop-preserved c = subst (λ (r : Entered). Sound r.session) (sym c.order.ensures) (entered-sound _ _ c.loop.invariant)
 
 pub returns : goal.returns
-returns c = subst (λ (r : Quoted). Sound r.session) (sym c.quote-r.ensures) (quoted-sound _ _ c.loop-i.invariant)
+returns c = subst (λ (r : Quoted). Sound r.session) (sym c.quote.ensures) (quoted-sound _ _ c.loop.invariant)

@@ -4,10 +4,10 @@ use Rattle.entries.specs.SoundAfter.{started-sound}
 use Rattle.entries.specs.declared.Started.{Started}
 use Rattle.entry_cost.proofs.started.Goals as goal
 
-pub start-r-requires : goal.start-r-requires
-start-r-requires c = subst Sound (sym c.fresh-fresh.ensures) fresh-sound
+pub start-requires : goal.start-requires
+start-requires c = subst Sound (sym c.fresh-fresh.ensures) fresh-sound
 
 pub returns : goal.returns
 returns c =
-    subst (λ (r : Started). Sound r.session) (sym c.start-r.ensures)
+    subst (λ (r : Started). Sound r.session) (sym c.start.ensures)
     (started-sound _ _ (subst Sound (sym c.fresh-fresh.ensures) fresh-sound))

@@ -5,4 +5,4 @@ use Rattle.entries.specs.declared.Entered.{Entered}
 use Rattle.sums.proofs.entered.Goals as goal
 
 pub returns : goal.returns
-returns c = subst (λ (r : Entered). Sound r.session) (sym c.order-r.ensures) (entered-sound _ _ c.requires)
+returns c = subst (λ (r : Entered). Sound r.session) (sym c.order.ensures) (entered-sound _ _ c.requires)

@@ -1,0 +1,6 @@
+use Rattle.std.proofs.Common.{◌≤◌}
+use Rattle.desk.specs.Sound.{SoundDesk}
+use Rattle.desk_cost.proofs.filled.Given as goal
+
+abbrev pub invariant-loop-i : goal.invariant-loop-i
+invariant-loop-i l = SoundDesk l.desk × (l.x ≤ 65536)
