@@ -12,7 +12,7 @@ use crate::{Book, Values};
 use places::{WORD_PLACES, WORDS, bit_of, put_word};
 use terms::{Order, Place, Validity};
 
-// A validity stands under its number of 01.
+// A validity stands under its number of 01. Kept: as `From<u8>`, which only `terms` can write, it would say that every number is one; no plainer.
 pub fn validity_from(x: u8) -> Validity
     ensures { result ≡ validity_from x }
 {
