@@ -9,6 +9,7 @@ mod settling;
 pub use columns::{Held, first_place, holds, put, validity_from, values_of};
 pub use hints::{HINTS, hint, hint_all};
 use places::WORDS;
+pub use settling::{settle_column, settle_left, settle_words};
 use terms::Place;
 
 #[derive(Clone, Copy)]

@@ -17,7 +17,11 @@ fn kept<T: Held>(rest: u32, x: T) -> T
 }
 
 // A column is emptied where nothing rests. The loops do nothing else, so that the compiler takes several places at a time.
-fn settle_column<T: Held>(column: &mut [T; Place::COUNT], rests: &[u32; Place::COUNT], end: usize)
+pub fn settle_column<T: Held>(
+    column: &mut [T; Place::COUNT],
+    rests: &[u32; Place::COUNT],
+    end: usize,
+)
     requires { end ≤ places }
     ensures { column.new ≡ column_to T.empty rests.now column.old end }
 {
@@ -27,7 +31,7 @@ fn settle_column<T: Held>(column: &mut [T; Place::COUNT], rests: &[u32; Place::C
 }
 
 // What rests is what is open from now on.
-fn settle_left(lefts: &mut [u32; Place::COUNT], rests: &[u32; Place::COUNT], end: usize)
+pub fn settle_left(lefts: &mut [u32; Place::COUNT], rests: &[u32; Place::COUNT], end: usize)
     requires { end ≤ places }
     ensures { lefts.new ≡ left_to rests.now lefts.old end }
 {
@@ -37,7 +41,7 @@ fn settle_left(lefts: &mut [u32; Place::COUNT], rests: &[u32; Place::COUNT], end
 }
 
 // A place where nothing rests is free.
-fn settle_words(taken: &mut [u64; WORDS], rests: &[u32; Place::COUNT], end: usize)
+pub fn settle_words(taken: &mut [u64; WORDS], rests: &[u32; Place::COUNT], end: usize)
     requires { end ≤ places }
     ensures { taken.new ≡ words_to rests.now taken.old end }
 {

@@ -5,7 +5,7 @@ mod hints;
 mod sides;
 
 pub use hints::{QUOTE_HINTS, quote_hint, quote_hint_all, quote_place_by_hint};
-pub use sides::{quote_place, requote};
+pub use sides::{quote_place, requote, requote_column, requote_words};
 
 // The places of a quote's two sides; 512 where one rests nowhere.
 #[derive(Clone, Copy)]

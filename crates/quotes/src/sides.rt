@@ -38,7 +38,13 @@ fn empty<T: Held>(column: &mut [T; Place::COUNT], place: usize)
 }
 
 // The old sides emptied, and the new ones put.
-fn requote_column<T: Held>(column: &mut [T; Place::COUNT], old: Pair, fresh: Pair, bid: T, ask: T)
+pub fn requote_column<T: Held>(
+    column: &mut [T; Place::COUNT],
+    old: Pair,
+    fresh: Pair,
+    bid: T,
+    ask: T,
+)
     requires { (fresh.bid < places) × (fresh.ask < places) }
     ensures { column.new ≡ requoted T.empty column.old old fresh bid ask }
 {
@@ -49,7 +55,7 @@ fn requote_column<T: Held>(column: &mut [T; Place::COUNT], old: Pair, fresh: Pai
 }
 
 // .. and in the words that say which places are taken.
-fn requote_words(words: &mut [u64; WORDS], old: Pair, fresh: Pair)
+pub fn requote_words(words: &mut [u64; WORDS], old: Pair, fresh: Pair)
     ensures { words.new ≡ requoted_words words.old old fresh }
 {
     unmark(words, old.bid);
