@@ -28,16 +28,13 @@ pub fn validity_from(x: u8) -> Validity
 pub fn values_of(number: u32, quoted: bool, o: Order) -> Values
     ensures { result ≡ values_of (resting_as number quoted o) }
 {
-    let side = o.side;
-    let validity = o.validity;
-    let limit = o.limit;
     Values {
         number,
         member: o.member.number(),
-        side: side.number(),
-        validity: validity.number(),
+        side: u8::from(o.side),
+        validity: u8::from(o.validity),
         left: o.quantity.number(),
-        limit: limit.number(),
+        limit: u32::from(o.limit),
         quoted: u8::from(quoted),
     }
 }
