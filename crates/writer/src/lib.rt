@@ -9,6 +9,7 @@ ghost use Rattle.writer.specs.Writing.{write_leaves, written};
 
 use kinds::{length_of, put_record};
 use records::Record;
+use refusals::Refusal;
 
 // The refusal, or 0 and the place behind the record.
 #[derive(Clone, Copy)]
@@ -29,10 +30,12 @@ pub fn write_record(record: Record, buffer: &mut [u8], place: usize) -> Written
     ensures { write_leaves result buffer.new ≡ written «record» buffer.old place }
 {
     if !records::in_range(record) {
-        return Written { answer: 1, place };
+        let answer = u8::from(Refusal::OutOfRange);
+        return Written { answer, place };
     }
     if !has_room(buffer, place, length_of(record)) {
-        return Written { answer: 12, place };
+        let answer = u8::from(Refusal::TooShort);
+        return Written { answer, place };
     }
     let next = put_record(buffer, place, record);
     Written {

@@ -20,11 +20,11 @@ room c = not-true _ (sym (rw c.length_of.ensures at c.has_room.ensures) ∙ c.if
 
 pub returns-then-not-in_range : goal.returns-then-not-in_range
 returns-then-not-in_range c = let a = c.args in
-    write-out-of-range a.«record» a.buffer.now a.place (sym c.in_range.ensures ∙ c.if-not-in_range.true)
+    rw c.from-answer.ensures (write-out-of-range a.«record» a.buffer.now a.place (sym c.in_range.ensures ∙ c.if-not-in_range.true))
 
 pub returns-then-not-has_room : goal.returns-then-not-has_room
 returns-then-not-has_room c = let a = c.args in
-    write-too-long a.«record» a.buffer.now a.place (good (goal.at.returns-then-not-has_room c).Else-not-in_range) (not-false _ (sym (rw c.length_of.ensures at c.has_room.ensures) ∙ c.if-not-has_room.true))
+    rw c.from-answer-then-not-has_room.ensures (write-too-long a.«record» a.buffer.now a.place (good (goal.at.returns-then-not-has_room c).Else-not-in_range) (not-false _ (sym (rw c.length_of.ensures at c.has_room.ensures) ∙ c.if-not-has_room.true)))
 
 pub returns : goal.returns
 returns c = let a = c.args in
