@@ -1,3 +1,2 @@
--- Bytes held in a buffer, moved to its front, and a read behind them.
+-- Bytes held in a buffer, and a read behind them.
 pub mod HeldBytes
-pub mod Moved
