@@ -114,11 +114,13 @@ fn filled(orders: u32, which: u8) -> Session
 {
     let mut session = started();
     let mut x: u32 = 1;
-    for i in 0..orders {
+    let mut i: u32 = 0;
+    while i < orders {
         let r = calls::order(session, chosen(which, i, orders, x));
         let next_session = r.session;
         session = next_session;
         x = next(x);
+        i += 1;
     }
     session
 }
@@ -166,10 +168,22 @@ fn one_more(session: Session, byte: u8, list: &mut [u32]) -> LastCall
     LastCall { result, session }
 }
 
+fn wide(x: u32) -> u64
+    ensures { result ≤ 4294967295 }
+{
+    x as u64
+}
+
 fn sum(numbers: &[u32]) -> u64
     requires { length numbers.now ≤ trade_list_length }
 {
-    numbers.iter().map(|number| u64::from(*number)).sum()
+    let mut total: u64 = 0;
+    let mut i: usize = 0;
+    while i < numbers.len() {
+        total += wide(numbers[i]);
+        i += 1;
+    }
+    total
 }
 
 // A write that fails is passed over.

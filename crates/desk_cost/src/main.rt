@@ -137,11 +137,13 @@ fn filled(orders: u32, which: u8) -> Desk
 {
     let mut desk = started();
     let mut x: u32 = 1;
-    for i in 0..orders {
+    let mut i: u32 = 0;
+    while i < orders {
         let r = desk::order(desk, chosen(which, i, orders, x));
         let next_desk = r.desk;
         desk = next_desk;
         x = next(x);
+        i += 1;
     }
     let r = desk::quote(desk, quote_of(10));
     let last = r.desk;
@@ -209,18 +211,29 @@ fn cell(desk: Desk, byte: u8, which: u8) -> u64
     0
 }
 
+fn wide(x: u32) -> u64 {
+    x as u64
+}
+
 // Modulo 2^64, as the next one.
 fn sum(numbers: &[u32]) -> u64 {
-    numbers.iter().fold(
-        0,
-        |total: u64, number| total.wrapping_add(u64::from(*number)),
-    )
+    let mut total: u64 = 0;
+    let mut i: usize = 0;
+    while i < numbers.len() {
+        total = total.wrapping_add(wide(numbers[i]));
+        i += 1;
+    }
+    total
 }
 
 fn sum_of_cells(cells: &[u64; CELLS]) -> u64 {
-    cells
-        .iter()
-        .fold(0, |total: u64, cell| total.wrapping_add(*cell))
+    let mut total: u64 = 0;
+    let mut i: usize = 0;
+    while i < CELLS {
+        total = total.wrapping_add(cells[i]);
+        i += 1;
+    }
+    total
 }
 
 // A write that fails is passed over.

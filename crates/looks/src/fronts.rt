@@ -7,7 +7,7 @@ ghost use Rattle.terms.specs.Bounds.{places};
 
 use crate::queues::{ASKED, queue_of};
 use calls::{Session, filled_front};
-use shown::put_line;
+use shown::{put_line, wide};
 use terms::{Auction, Place, Side};
 
 // A large entry is a quantity times 2^40: a quantity has at most 24 bits, so that it fits 64, and two of the largest together don't.
@@ -48,7 +48,13 @@ fn front_of<'a>(buys: &'a [u64], sells: &'a [u64], side: u8, total: u64) -> Fron
 fn sum(quantities: &[u32]) -> u64
     requires { length quantities.now ≤ places }
 {
-    quantities.iter().map(|quantity| u64::from(*quantity)).sum()
+    let mut total: u64 = 0;
+    let mut i: usize = 0;
+    while i < quantities.len() {
+        total += wide(quantities[i]);
+        i += 1;
+    }
+    total
 }
 
 // The quantities as entries, times a power of two; how many they are.
@@ -56,10 +62,12 @@ fn list_entries(list: &mut [u64], quantities: &[u32], bits: u32) -> usize
     requires { (length quantities.now ≤ length list.old) × (bits < 64) }
     ensures { IsFront result list.new }
 {
-    for (entry, quantity) in list.iter_mut().zip(quantities) {
-        *entry = u64::from(*quantity) << bits;
+    let mut i: usize = 0;
+    while i < quantities.len() {
+        list[i] = wide(quantities[i]) << bits;
+        i += 1;
     }
-    quantities.len()
+    i
 }
 
 // A front of the side's list, asked with the quantities times a power of two.
@@ -124,8 +132,10 @@ fn front_lines_with(
     ensures { result ≤ length out.old }
 {
     let mut end = at;
-    for side in 0..ASKED {
+    let mut side: u8 = 0;
+    while side < ASKED {
         end = front_lines_of(rt, out, end, buys, sells, side);
+        side += 1;
     }
     end
 }
@@ -136,10 +146,14 @@ fn left_of<'a>(
     numbers: &'a [u32; Place::COUNT],
     left: &'a [u32; Place::COUNT],
 ) -> u32 {
-    match numbers.iter().position(|given| *given == number) {
-        Some(place) => left[place],
-        None => 0,
+    let mut place: usize = 0;
+    while place < Place::COUNT {
+        if numbers[place] == number {
+            return left[place];
+        }
+        place += 1;
     }
+    0
 }
 
 // .. and of each order of a queue; how many they are.
@@ -152,10 +166,12 @@ fn list_left<'a>(
     requires { length queue.now ≤ length list.old }
     ensures { IsFront result list.new }
 {
-    for (open, number) in list.iter_mut().zip(queue) {
-        *open = left_of(*number, numbers, left);
+    let mut i: usize = 0;
+    while i < queue.len() {
+        list[i] = left_of(queue[i], numbers, left);
+        i += 1;
     }
-    queue.len()
+    i
 }
 
 // The open quantities of a side in rank order, and how many they are. Every resting order takes part in the closing.

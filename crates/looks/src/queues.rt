@@ -46,8 +46,10 @@ pub(crate) fn theoretical_lines(
     ensures { result ≤ length out.old }
 {
     let mut end = at;
-    for auction in 0..ASKED {
+    let mut auction: u8 = 0;
+    while auction < ASKED {
         end = theoretical_line(rt, out, end, session, auction);
+        auction += 1;
     }
     end
 }
@@ -88,8 +90,10 @@ fn ranked_lines_of(rt: &impl Print, out: &mut [u8], at: usize, session: Session,
     ensures { result ≤ length out.old }
 {
     let mut end = at;
-    for auction in 0..ASKED {
+    let mut auction: u8 = 0;
+    while auction < ASKED {
         end = ranked_line(rt, out, end, session, side, auction);
+        auction += 1;
     }
     end
 }
@@ -100,8 +104,10 @@ pub(crate) fn ranked_lines(rt: &impl Print, out: &mut [u8], at: usize, session: 
     ensures { result ≤ length out.old }
 {
     let mut end = at;
-    for side in 0..ASKED {
+    let mut side: u8 = 0;
+    while side < ASKED {
         end = ranked_lines_of(rt, out, end, session, side);
+        side += 1;
     }
     end
 }
@@ -123,8 +129,10 @@ pub(crate) fn short_lines(rt: &impl Print, out: &mut [u8], at: usize, session: S
     ensures { result ≤ length out.old }
 {
     let mut end = at;
-    for side in 0..ASKED {
+    let mut side: u8 = 0;
+    while side < ASKED {
         end = short_line(rt, out, end, session, side);
+        side += 1;
     }
     end
 }

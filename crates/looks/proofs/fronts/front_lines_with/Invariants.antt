@@ -1,5 +1,8 @@
-use Rattle.std.proofs.Common.{◌≤◌, length}
+use Rattle.std.proofs.Common.{◌-◌, ◌≤◌, ◌≡◌, length}
 use Rattle.looks.proofs.fronts.front_lines_with.Given as goal
 
 abbrev pub invariant-loop-side : goal.invariant-loop-side
-invariant-loop-side g l = l.end ≤ length l.out
+invariant-loop-side g l = (l.end ≤ length l.out) × (length l.out ≡ length l.initial.out)
+
+abbrev pub decreases-loop-side : goal.decreases-loop-side
+decreases-loop-side g l = 4 - l.side

@@ -1,5 +1,8 @@
-use Rattle.std.proofs.Common.{◌≤◌, length}
+use Rattle.std.proofs.Common.{◌-◌, ◌≤◌, ◌≡◌, length}
 use Rattle.looks.proofs.queues.ranked_lines_of.Given as goal
 
 abbrev pub invariant-loop-auction : goal.invariant-loop-auction
-invariant-loop-auction g l = l.end ≤ length l.out
+invariant-loop-auction g l = (l.end ≤ length l.out) × (length l.out ≡ length l.initial.out)
+
+abbrev pub decreases-loop-auction : goal.decreases-loop-auction
+decreases-loop-auction g l = 4 - l.auction
