@@ -57,7 +57,7 @@ pub fn outlook(
         ranks: &both[bids..bids + asks],
         book,
     };
-    let found = price::searched(reference, &buys, &sells);
+    let found = price::searched(reference, buys, sells);
     let unlimited_buys = buys.offer(Limit::UNLIMITED);
     let unlimited_sells = sells.offer(Limit::UNLIMITED);
     let outcome = outcome_of(

@@ -35,10 +35,10 @@ impl Front {
 impl<'a> RankedQueue<'a> {
     // The front with all that follow and have ranks below the bound. Its count goes on from where it is, here and back below: a `for` would take
     // the rest of the list and count beside it.
-    fn longer(&self, front: Front, bound: u64) -> Front
-        requires { IsFront self.now.book.now.left self.now.ranks.now front.count front.total }
-        ensures { IsFront self.now.book.now.left self.now.ranks.now result.count result.total
-            × (result.count < length self.now.ranks.now → bound ≤ get_or self.now.ranks.now result.count 0) }
+    fn longer(self, front: Front, bound: u64) -> Front
+        requires { IsFront self.book.now.left self.ranks.now front.count front.total }
+        ensures { IsFront self.entry.book.now.left self.entry.ranks.now result.count result.total
+            × (result.count < length self.entry.ranks.now → bound ≤ get_or self.entry.ranks.now result.count 0) }
     {
         let mut count = front.count;
         let mut total = front.total;
@@ -54,11 +54,11 @@ impl<'a> RankedQueue<'a> {
     }
 
     // The front without the last ones that have no rank below the bound.
-    fn shorter(&self, front: Front, bound: u64) -> Front
-        requires { IsFront self.now.book.now.left self.now.ranks.now front.count front.total
-            × (front.count < length self.now.ranks.now → bound ≤ get_or self.now.ranks.now front.count 0) }
-        ensures { IsFront self.now.book.now.left self.now.ranks.now result.count result.total
-            × (result.total ≡ sum_below bound self.now.book.now.left self.now.ranks.now) }
+    fn shorter(self, front: Front, bound: u64) -> Front
+        requires { IsFront self.book.now.left self.ranks.now front.count front.total
+            × (front.count < length self.ranks.now → bound ≤ get_or self.ranks.now front.count 0) }
+        ensures { IsFront self.entry.book.now.left self.entry.ranks.now result.count result.total
+            × (result.total ≡ sum_below bound self.entry.book.now.left self.entry.ranks.now) }
     {
         let mut count = front.count;
         let mut total = front.total;
@@ -74,18 +74,18 @@ impl<'a> RankedQueue<'a> {
     }
 
     // The front of those whose limits allow a price, from any other; at no price, 0, of the unlimited ones.
-    pub(crate) fn front_at(&self, price: u32, front: Front) -> Front
-        requires { IsFront self.now.book.now.left self.now.ranks.now front.count front.total }
-        ensures { IsFront self.now.book.now.left self.now.ranks.now result.count result.total
-            × (result.total ≡ offered self.now.side self.now.book.now.left self.now.ranks.now price) }
+    pub(crate) fn front_at(self, price: u32, front: Front) -> Front
+        requires { IsFront self.book.now.left self.ranks.now front.count front.total }
+        ensures { IsFront self.entry.book.now.left self.entry.ranks.now result.count result.total
+            × (result.total ≡ offered self.entry.side self.entry.book.now.left self.entry.ranks.now price) }
     {
         let bound = queue::rank_bound(self.side, price);
         self.shorter(self.longer(front, bound), bound)
     }
 
     // What the side offers at a price.
-    pub fn offer(&self, price: u32) -> u64
-        ensures { result ≡ offered self.now.side self.now.book.now.left self.now.ranks.now price }
+    pub fn offer(self, price: u32) -> u64
+        ensures { result ≡ offered self.entry.side self.entry.book.now.left self.entry.ranks.now price }
     {
         let front = self.front_at(price, Front::NOBODY);
         front.total

@@ -22,11 +22,11 @@ pub struct Found {
 fn weigh_limits<'a>(
     start: Weighed,
     reference: u32,
-    queue: &RankedQueue<'a>,
-    buys: &RankedQueue<'a>,
-    sells: &RankedQueue<'a>,
+    queue: RankedQueue<'a>,
+    buys: RankedQueue<'a>,
+    sells: RankedQueue<'a>,
 ) -> Weighed
-    ensures { result ≡ weigh_all reference (offered buys.now.side buys.now.book.now.left buys.now.ranks.now) (offered sells.now.side sells.now.book.now.left sells.now.ranks.now) (along queue.now.book.now.limit queue.now.ranks.now) start }
+    ensures { result ≡ weigh_all reference (offered buys.entry.side buys.entry.book.now.left buys.entry.ranks.now) (offered sells.entry.side sells.entry.book.now.left sells.entry.ranks.now) (along queue.entry.book.now.limit queue.entry.ranks.now) start }
 {
     let mut w = start;
     let mut last = Limit::UNLIMITED;
@@ -50,12 +50,12 @@ fn chosen<'a>(
     w: Weighed,
     demand: Front,
     supply: Front,
-    buys: &RankedQueue<'a>,
-    sells: &RankedQueue<'a>,
+    buys: RankedQueue<'a>,
+    sells: RankedQueue<'a>,
 ) -> Found
-    requires demand { IsFront buys.now.book.now.left buys.now.ranks.now demand.count demand.total }
-    requires supply { IsFront sells.now.book.now.left sells.now.ranks.now supply.count supply.total }
-    ensures { result ≡ found_in (offered buys.now.side buys.now.book.now.left buys.now.ranks.now) (offered sells.now.side sells.now.book.now.left sells.now.ranks.now) w }
+    requires demand { IsFront buys.book.now.left buys.ranks.now demand.count demand.total }
+    requires supply { IsFront sells.book.now.left sells.ranks.now supply.count supply.total }
+    ensures { result ≡ found_in (offered buys.entry.side buys.entry.book.now.left buys.entry.ranks.now) (offered sells.entry.side sells.entry.book.now.left sells.entry.ranks.now) w }
 {
     let high_demand = buys.front_at(w.high, demand);
     let high_supply = sells.front_at(w.high, supply);
@@ -77,8 +77,8 @@ fn chosen<'a>(
 }
 
 // The candidates are the reference price and the limits of both queues.
-pub fn searched<'a>(reference: u32, buys: &RankedQueue<'a>, sells: &RankedQueue<'a>) -> Found
-    ensures { result ≡ searched_in reference (offered buys.now.side buys.now.book.now.left buys.now.ranks.now) (offered sells.now.side sells.now.book.now.left sells.now.ranks.now) (along buys.now.book.now.limit buys.now.ranks.now) (along sells.now.book.now.limit sells.now.ranks.now) }
+pub fn searched<'a>(reference: u32, buys: RankedQueue<'a>, sells: RankedQueue<'a>) -> Found
+    ensures { result ≡ searched_in reference (offered buys.entry.side buys.entry.book.now.left buys.entry.ranks.now) (offered sells.entry.side sells.entry.book.now.left sells.entry.ranks.now) (along buys.entry.book.now.limit buys.entry.ranks.now) (along sells.entry.book.now.limit sells.entry.ranks.now) }
 {
     let demand = buys.front_at(reference, Front::NOBODY);
     let supply = sells.front_at(reference, Front::NOBODY);

@@ -9,7 +9,7 @@ loop-rank-init c = (to_start _ _ _ _ _ _, front-none _ _, front-none _ _)
 
 pub loop-rank-preserved : goal.loop-rank-preserved
 loop-rank-preserved c = let l = c.loop-rank in
-    let limit = get_or c.args.queue.now.book.now.limit c.place_of_rank.result 0 in
+    let limit = get_or c.args.queue.book.now.limit c.place_of_rank.result 0 in
     elim c.if-limit-last.branch [
       | then-limit-last w ↦ rw (w.w-is, w.last-is, w.demand-is, w.supply-is) (
         rw w.weigh-w.ensures (to-weighed _ _ _ _ _ _ l.rank-index l.last l.w l.invariant.0 limit c.loop-rank-test.true (rw c.place_of_rank.ensures.0) w.if-limit-last.true _ _ w.front_at-demand.ensures.1 w.front_at-supply.ensures.1),

@@ -5,7 +5,7 @@ use Rattle.price.proofs.front.RankedQueue.shorter.Goals as goal
 
 pub returns-then-rank-bound : goal.returns-then-rank-bound
 returns-then-rank-bound c = let l = c.loop-count in
-    (l.invariant.0, front_below _ _ l.count l.total l.invariant.0 c.args.bound c.args.self.now.in_order (λ h. c.if-rank-bound.true) l.invariant.1)
+    (l.invariant.0, front_below _ _ l.count l.total l.invariant.0 c.args.bound c.args.self.in_order (λ h. c.if-rank-bound.true) l.invariant.1)
 
 pub overflow_sub-total : goal.overflow_sub-total
 overflow_sub-total c = let l = c.loop-count in
@@ -17,4 +17,4 @@ loop-count-preserved c = let l = c.loop-count in
 
 pub returns : goal.returns
 returns c = let l = c.loop-count in
-    (l.invariant.0, front_below _ _ l.count l.total l.invariant.0 c.args.bound c.args.self.now.in_order (λ h. absurd (omega (arith, c.loop-count-test.false))) l.invariant.1)
+    (l.invariant.0, front_below _ _ l.count l.total l.invariant.0 c.args.bound c.args.self.in_order (λ h. absurd (omega (arith, c.loop-count-test.false))) l.invariant.1)
