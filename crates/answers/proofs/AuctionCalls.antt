@@ -1,8 +1,8 @@
 -- The auction from what its code learns on the way, for the promise of `auction`; the outcome and the trades counted also for the theoretical answer.
-use Prim.Native.Nat.{ℕ, zero, suc, ◌*◌, ◌≤◌}
+use Prim.Native.Nat.{ℕ, ◌*◌, ◌≤◌}
 use Rattle.std.specs.Prelude.{Bool, true, ◌≡◌, List, [], ◌++◌, leb, length, take, drop}
 use Rattle.std.proofs.Math.Bool.{false}
-use Rattle.std.proofs.Common.{true≢false, sym, ◌∙◌, arith, ltb-false}
+use Rattle.std.proofs.Common.{true≢false, sym, subst, ◌∙◌, arith, ltb-false}
 use Rattle.std.proofs.Math.Path.{refl, ap}
 use Rattle.lists.specs.Tests.{tests, and_both}
 use Rattle.lists.specs.Sums.{◌∈◌, counted, counted-le, sum_bound}
@@ -32,17 +32,18 @@ use Rattle.auction.proofs.OutcomeIn.{outcome-in}
 use Rattle.auction.proofs.TradesIn.{trades-in, rests-in}
 use Rattle.trades.specs.Written.{quadruples}
 use Rattle.session.specs.declared.{Session.Session}
-use Rattle.refusals.specs.Checks.{Check, first_hit, answered_by}
+use Rattle.refusals.specs.Checks.{Check, first_hit, answered_by, answered-refused, answered-done}
+use Rattle.refusals.specs.Numbers.{refusal-number-above}
 use Rattle.refusals.specs.Exactly.{clear}
 use Rattle.session.specs.Sound.{legal_price, legal-in-range, Sound, number-room}
 use Rattle.session.specs.State.{with_book, delay_given, part}
-use Rattle.courses.specs.declared.{AuctionAnswer.AuctionAnswer, Course.Course, Course.TheVariants.Refused, Course.TheVariants.TakesPlace, Plan.Plan, Standing.Standing}
+use Rattle.courses.specs.declared.{AuctionAnswer.AuctionAnswer, Course.Course, Course.TheVariants.Refused, Course.TheVariants.HeldBack, Course.TheVariants.TakesPlace, Plan.Plan, Standing.Standing}
 use Rattle.answers.proofs.SoundAfter.{traded-price}
 use Rattle.courses.specs.Held.{preventable, delayable}
 use Rattle.courses.specs.Answer.{answer_with, answer_of}
-use Rattle.courses.specs.Course.{course_of, takes_place, answer_by, result_by, Priced, standing_by, Planned}
+use Rattle.courses.specs.Course.{course_of, takes_place, answer_by, result_by, Priced, standing_by, Decided, takes-place, Planned}
 use Rattle.answers.specs.Auctions.{held_by, outcome_of, auction_checks, auction_leaves, auction_refused, auction_done, auctioned}
-use Rattle.answers.specs.AuctionCalls.{closed_by, leaves_as, leaves_by, settled_by, trades_by}
+use Rattle.answers.specs.AuctionCalls.{closed_by, standing_of, leaves_as, leaves_by, settled_by, trades_by}
 
 module _ (s : Session) (sound : Sound s) (a : Auction) where
   by-ranks : (quantity : ℕ) → trades_by s a quantity ≡ trades_of quantity (part s a)
@@ -124,20 +125,13 @@ module _ (s : Session) (sound : Sound s) (a : Auction) where
   outcome-by-ranks buys sells e f prevents delays g h o i =
       i ∙ rw (e, f, g, h) (outcome-in (legal_price s) s.given s.book sound.book-sound (number-room s sound) a (held_by s a) s.parameters.threshold.0 s.reference.0 (legal-in-range s s.reference.0 sound.reference-holds))
 
--- an auction that takes place is not refused, and has the auction and the outcome that its course says
-takes-place : (k : ℕ) (a b : Auction) (o p : Outcome) → answered_by k Refused (course_of a o) ≡ TakesPlace b p → (k ≡ 0) × (b ≡ a) × (p ≡ o)
-takes-place zero a b (Traded price quantity) p e = (refl, cc, cc)
-takes-place zero a b NoTrade p e = (refl, cc, cc)
-takes-place zero a b NonOpening p e = absurd (let z : ◌≡◌ {A = ℕ} 0 1 = cc in omega arith)
-takes-place zero a b (Delayed price quantity) p e = absurd (let z : ◌≡◌ {A = ℕ} 0 1 = cc in omega arith)
-takes-place (suc n) a b o p e = absurd (let z : ◌≡◌ {A = ℕ} 0 1 = cc in omega arith)
-
 module _ (s : Session) (sound : Sound s) (which : ℕ) (list : List ℕ) where
   abbrev checks : List Check
   checks = auction_checks s which (length list)
 
-  abbrev pub course_now : Course
-  course_now = answered_by (first_hit checks) Refused (course_of (auction_from which) (outcome_of s (auction_from which)))
+  -- what is decided now
+  abbrev pub IsCourseNow : Course → Type 0
+  IsCourseNow course = Decided (first_hit checks) (auction_from which) (outcome_of s (auction_from which)) course
 
   outcome-found : outcome_in (held_by s (auction_from which)) s.parameters.threshold.0 s.reference.0 s.book.limit s.book.left (ranks_on s.book (auction_from which) Buy) (ranks_on s.book (auction_from which) Sell)
       ≡ outcome_of s (auction_from which)
@@ -146,37 +140,42 @@ module _ (s : Session) (sound : Sound s) (which : ℕ) (list : List ℕ) where
       (delayable (auction_from which) s.delayed) refl refl _ refl
 
   -- the course that is planned
-  pub course-planned : {plan : Plan} {ranks : List ℕ} (threshold reference : ℕ) → threshold ≡ s.parameters.threshold.0 → reference ≡ s.reference.0
-      → Planned which s.phase (length list) s.delayed threshold reference s.book.side s.book.validity s.book.limit s.book.number s.book.left plan ranks
-      → plan.course ≡ course_now
-  course-planned threshold reference t r planned = planned.course ∙ rw (t, r, outcome-found)
+  pub course-planned : {plan : Plan} {ranks : List ℕ}
+      → Planned which s.phase (length list) s.delayed s.parameters.threshold.0 s.reference.0 s.book.side s.book.validity s.book.limit s.book.number s.book.left plan ranks
+      → IsCourseNow plan.course
+  course-planned planned = record { answer = planned.course.answer; goes = λ h. planned.course.goes h ∙ rw outcome-found }
 
   -- its price is one
-  pub course-priced : Priced course_now
-  course-priced = go (first_hit checks) (outcome_of s (auction_from which)) refl
+  pub course-priced : (course : Course) → IsCourseNow course → Priced course
+  course-priced (Refused r) is = tt
+  course-priced (HeldBack o) is = tt
+  course-priced (TakesPlace a o) is = subst Priced (sym (is.goes (sym is.answer))) (go (outcome_of s (auction_from which)) refl)
     where
-      go : (k : ℕ) (o : Outcome) → outcome_of s (auction_from which) ≡ o → Priced (answered_by k Refused (course_of (auction_from which) o))
-      go zero (Traded price quantity) e = traded-price s sound (auction_from which) price quantity e
-      go zero NoTrade e = tt
-      go zero NonOpening e = tt
-      go zero (Delayed price quantity) e = tt
-      go (suc n) o e = tt
+      go : (o : Outcome) → outcome_of s (auction_from which) ≡ o → Priced (course_of (auction_from which) o)
+      go (Traded price quantity) e = traded-price s sound (auction_from which) price quantity e
+      go NoTrade e = tt
+      go NonOpening e = tt
+      go (Delayed price quantity) e = tt
 
   -- refused or held back: the book stays
-  pub kept_leaves : (course : Course) → course ≡ course_now → takes_place course ≡ false → leaves_by s course 0 s.book list ≡ auctioned s which list
+  pub kept_leaves : (course : Course) → IsCourseNow course → takes_place course ≡ false → leaves_by s course 0 s.book list ≡ auctioned s which list
   unfolding auctioned
-  kept_leaves course is stays = rw is (go (first_hit checks) (outcome_of s (auction_from which)) refl (ap takes_place (sym is) ∙ stays))
+  kept_leaves (Refused r) is stays = answered-refused checks (auction_refused s list) (auction_done s (auction_from which) list) is.answer (refusal-number-above r)
+  kept_leaves (HeldBack o) is stays =
+      let at : HeldBack o ≡ course_of (auction_from which) (outcome_of s (auction_from which)) = is.goes (sym is.answer) in
+      subst (λ (course : Course). leaves_by s course 0 s.book list ≡ auction_done s (auction_from which) list) (sym at) (go (outcome_of s (auction_from which)) refl (ap takes_place (sym at)))
+      ∙ answered-done checks (auction_refused s list) (auction_done s (auction_from which) list) is.answer
     where
-      go : (k : ℕ) (o : Outcome) → outcome_of s (auction_from which) ≡ o → takes_place (answered_by k Refused (course_of (auction_from which) o)) ≡ false
-          → leaves_by s (answered_by k Refused (course_of (auction_from which) o)) 0 s.book list ≡ answered_by k (auction_refused s list) (auction_done s (auction_from which) list)
-      go zero (Traded price quantity) e h = absurd (true≢false h)
-      go zero NoTrade e h = absurd (true≢false h)
-      go zero NonOpening e h = non-opening-leaves s sound (auction_from which) e list
-      go zero (Delayed price quantity) e h = delayed-leaves s sound (auction_from which) price quantity e list
-      go (suc n) o e h = refl
+      go : (o : Outcome) → outcome_of s (auction_from which) ≡ o → takes_place (course_of (auction_from which) o) ≡ false
+          → leaves_by s (course_of (auction_from which) o) 0 s.book list ≡ auction_done s (auction_from which) list
+      go (Traded price quantity) e h = absurd (true≢false h)
+      go NoTrade e h = absurd (true≢false h)
+      go NonOpening e h = non-opening-leaves s sound (auction_from which) e list
+      go (Delayed price quantity) e h = delayed-leaves s sound (auction_from which) price quantity e list
+  kept_leaves (TakesPlace a o) is stays = absurd (true≢false stays)
 
   -- taking place: the trades of its quantity at its price, and the book after them
-  module _ (course : Course) (is : course ≡ course_now) {b : Auction} {p : Outcome} (takes : course ≡ TakesPlace b p) (ranks : List ℕ) (bids asks : ℕ)
+  module _ (course : Course) (is : IsCourseNow course) {b : Auction} {p : Outcome} (takes : course ≡ TakesPlace b p) (ranks : List ℕ) (bids asks : ℕ)
       (buys : first_hit checks ≡ 0 → take bids ranks ≡ ranks_on s.book (auction_from which) Buy)
       (sells : first_hit checks ≡ 0 → take asks (drop bids ranks) ≡ ranks_on s.book (auction_from which) Sell) where
     abbrev bid_ranks : List ℕ
@@ -186,7 +185,7 @@ module _ (s : Session) (sound : Sound s) (which : ℕ) (list : List ℕ) where
     ask_ranks = take asks (drop bids ranks)
 
     known : (first_hit checks ≡ 0) × (b ≡ auction_from which) × (p ≡ outcome_of s (auction_from which))
-    known = takes-place (first_hit checks) (auction_from which) b (outcome_of s (auction_from which)) p (sym is ∙ takes)
+    known = takes-place course is takes
 
     pub taken-few : (length bid_ranks ≤ places) × (length ask_ranks ≤ places)
     taken-few =
@@ -212,7 +211,7 @@ module _ (s : Session) (sound : Sound s) (which : ℕ) (list : List ℕ) where
     taken-volume = rw (taken-by-ranks, by-ranks s sound (auction_from which) (quantity_answered p), known.2) (go (outcome_of s (auction_from which)) refl (ap takes_place (sym at ∙ takes)))
       where
         at : course ≡ course_of (auction_from which) (outcome_of s (auction_from which))
-        at = is ∙ rw known.0
+        at = is.goes known.0
 
         go : (o : Outcome) → outcome_of s (auction_from which) ≡ o → takes_place (course_of (auction_from which) o) ≡ true → volume (trades_of (quantity_answered o) (part s (auction_from which))) ≤ places * max_quantity
         go (Traded price quantity) e h = traded-within s sound (auction_from which) price quantity e
@@ -228,7 +227,7 @@ module _ (s : Session) (sound : Sound s) (which : ℕ) (list : List ℕ) where
     taken-count count c = rw takes (go p refl)
       where
         placed : (o : Outcome) → p ≡ o → takes_place (course_of (auction_from which) o) ≡ true
-        placed o e = let at : course ≡ course_of (auction_from which) o = is ∙ rw (known.0, ← known.2, e) in ap takes_place (sym at ∙ takes)
+        placed o e = let at : course ≡ course_of (auction_from which) o = is.goes known.0 ∙ rw (← known.2, e) in ap takes_place (sym at ∙ takes)
 
         none : p ≡ NoTrade → taken_trades ≡ []
         none e = taken-by-ranks ∙ rw e (by-ranks s sound (auction_from which) 0 ∙ trades-none (part s (auction_from which)))
@@ -260,17 +259,17 @@ module _ (s : Session) (sound : Sound s) (which : ℕ) (list : List ℕ) where
       where
         go : (first_hit checks ≡ 0) × (b ≡ auction_from which) × (p ≡ outcome_of s (auction_from which)) → leaves_by s course count book left ≡ auctioned s which list
         go (z, i, o) =
-            let at : course ≡ course_of (auction_from which) (outcome_of s (auction_from which)) = is ∙ rw z in
+            let at : course ≡ course_of (auction_from which) (outcome_of s (auction_from which)) = is.goes z in
             let settled : book ≡ settled_by s (auction_from which) (quantity_answered (outcome_of s (auction_from which))) = k ∙ rw (buys z, sells z, i, o) in
             rw (at, settled)
             (leaves_of_lem (outcome_of s (auction_from which)) refl (ap takes_place (sym at ∙ takes)) count left (rw (buys z, sells z, o) at c) (rw (buys z, sells z, o) at l)
             ∙ ap (λ (m : ℕ). answered_by m (auction_refused s list) (auction_done s (auction_from which) list)) (sym z))
 
-module _ (s : Session) (sound : Sound s) (which : ℕ) (list : List ℕ) (course : Course) (is : course ≡ course_now s sound which list)
+module _ (s : Session) (sound : Sound s) (which : ℕ) (list : List ℕ) (course : Course) (is : IsCourseNow s sound which list course)
     (now : Session) (count : ℕ) (left : List ℕ) (answer : ℕ) (a : answer ≡ answer_by course) (result : AuctionAnswer) (r : result ≡ result_by course count)
-    (standing : Standing) (t : standing ≡ standing_by course (record { phase = s.phase; delayed = now.delayed; reference = now.reference })) where
+    (standing : Standing) (t : standing ≡ standing_by course (standing_of s)) where
   -- refused or held back
-  pub leaves_kept : takes_place course ≡ false → now ≡ s → count ≡ 0 → left ≡ list → leaves_as s answer result standing now left ≡ auctioned s which list
+  pub leaves_kept : takes_place course ≡ false → now ≡ s → count ≡ 0 → left ≡ list → leaves_as answer result standing now left ≡ auctioned s which list
   leaves_kept stays n c l = rw (a, r, t, n, c, l) (kept_leaves s sound which list course is stays)
 
   -- .. or taking place, with each column settled
@@ -283,6 +282,6 @@ module _ (s : Session) (sound : Sound s) (which : ℕ) (list : List ℕ) (course
       × (closed.rests ≡ rests_in b (quantity_answered p) s.book.validity s.book.left (take bids ranks) (take asks (drop bids ranks)))
       × (4 * closed.count ≤ length list → left ≡ quadruples (price_answered p) (trades_in (quantity_answered p) s.book.number s.book.left (take bids ranks) (take asks (drop bids ranks))) ++ drop (4 * closed.count) list)
       → (end : ℕ) → end ≡ behind_taken s.book.taken → book ≡ settled_to closed.rests s.book end
-      → leaves_as s answer result standing now left ≡ auctioned s which list
+      → leaves_as answer result standing now left ≡ auctioned s which list
   leaves-taken takes ranks bids asks buys sells book n closed c (k, rests, l) end e settled =
       rw (a, r, t, n, c) (taken-leaves s sound which list course is takes ranks bids asks buys sells closed.count book left k (settled ∙ rw (e, rests)) l)

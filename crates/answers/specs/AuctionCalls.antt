@@ -46,10 +46,10 @@ leaves_by s course count book list =
     }) list
 
 -- What the code puts together in the end: the numbers by the course, what the session stands at, and the rest of the session as it is now.
-abbrev pub leaves_as : Session → ℕ → AuctionAnswer → Standing → Session → List ℕ → AuctionLeaves
-leaves_as s answer result standing now list =
+abbrev pub leaves_as : ℕ → AuctionAnswer → Standing → Session → List ℕ → AuctionLeaves
+leaves_as answer result standing now list =
     auction_leaves (record {
       answer = answer;
       result = result;
-      session = record { phase = standing.phase; delayed = standing.delayed; parameters = s.parameters; reference = standing.reference; given = now.given; book = now.book };
+      session = record { phase = standing.phase; delayed = standing.delayed; parameters = now.parameters; reference = standing.reference; given = now.given; book = now.book };
     }) list

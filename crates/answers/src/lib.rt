@@ -25,61 +25,43 @@ pub fn auction(mut session: Session, which: u8, list: &mut [u32]) -> Auctioned
     requires { Sound session }
     ensures { auction_leaves result list.new ≡ auctioned session which list.old }
 {
-    let phase = session.phase;
-    let parameters = session.parameters;
+    let before = Standing {
+        phase: session.phase,
+        delayed: session.delayed,
+        reference: session.reference,
+    };
     let mut ranks = [0u64; Place::COUNT];
     let plan = planned(
         which,
-        phase,
         list.len(),
-        session.delayed,
-        parameters.threshold.number(),
-        session.reference.number(),
+        before,
+        session.parameters.threshold,
         &session.book,
         &mut ranks,
     );
-    let course = plan.course;
-    let mut count: u32 = 0;
-    if let Course::TakesPlace(auction, outcome) = course {
-        let bids = plan.bids;
-        let behind = bids + plan.asks;
-        let both = &ranks[..];
+    let mut count = 0;
+    if let Course::TakesPlace(auction, outcome) = plan.course {
+        let asks_end = plan.bids + plan.asks;
         let closed = auction::traded(
             auction,
             price_of(outcome),
             quantity_of(outcome),
             &session.book.number,
             &session.book,
-            &both[..bids],
-            &both[bids..behind],
+            &ranks[..plan.bids],
+            &ranks[plan.bids..asks_end],
             list,
         );
-        let rests = closed.rests;
-        session.book.settle(&rests);
+        session.book.settle(&closed.rests);
         count = closed.count;
     }
-    let answer = answer_of(course);
-    let result = result_of(course, count);
-    let before = Standing {
-        phase,
-        delayed: session.delayed,
-        reference: session.reference,
-    };
-    let standing = standing_after(course, before);
-    let later = standing.phase;
-    let reference = standing.reference;
-    let book = session.book;
-    let after = Session {
-        phase: later,
-        delayed: standing.delayed,
-        parameters,
-        reference,
-        given: session.given,
-        book,
-    };
+    let after = standing_after(plan.course, before);
+    session.phase = after.phase;
+    session.delayed = after.delayed;
+    session.reference = after.reference;
     Auctioned {
-        answer,
-        result,
-        session: after,
+        answer: answer_of(plan.course),
+        result: result_of(plan.course, count),
+        session,
     }
 }

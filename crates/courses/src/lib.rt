@@ -6,12 +6,17 @@ ghost use Rattle.terms.specs.Bounds.{places};
 ghost use Rattle.auction.specs.Outcome.{price_answered, quantity_answered};
 ghost use Rattle.courses.specs.Held.{preventable, delayable};
 ghost use Rattle.courses.specs.Answer.{no_answer, answer_with};
+ghost use Rattle.refusals.specs.Checks.{answered};
+ghost use Rattle.refusals.specs.Numbers.{numbered_answer};
+ghost use Rattle.refusals.specs.Rows.{auction_rows};
+ghost use Rattle.terms.specs.Orders.{auction_from};
 ghost use Rattle.courses.specs.Course.{course_of, turned_down, answer_by, result_by, delayed_by, PricedBy, reference_by, Priced, standing_by, Planned};
 
 use auction::{Held, Outcome};
 use book::Book;
 use controls::{Phase, phase_after};
-use terms::{Auction, AuctionMade, Price};
+use refusals::Refusal;
+use terms::{Auction, DelayThreshold, Price};
 
 // The four numbers of an auction and of the theoretical answer.
 #[derive(Clone, Copy)]
@@ -25,7 +30,7 @@ pub struct AuctionAnswer {
 // Outcomes 3 and 4 hold an auction back; with 1 and 2 it takes place.
 #[derive(Clone, Copy)]
 pub enum Course {
-    Refused(u8),
+    Refused(Refusal),
     HeldBack(Outcome),
     TakesPlace(Auction, Outcome),
 }
@@ -133,11 +138,11 @@ fn course_of(auction: Auction, outcome: Outcome) -> Course
     }
 }
 
-fn turned_down(answer: u8) -> Plan
-    ensures { result ≡ turned_down answer }
+fn turned_down(refusal: Refusal) -> Plan
+    ensures { result ≡ turned_down refusal }
 {
     Plan {
-        course: Course::Refused(answer),
+        course: Course::Refused(refusal),
         bids: 0,
         asks: 0,
     }
@@ -147,7 +152,7 @@ pub fn answer_of(course: Course) -> u8
     ensures { result ≡ answer_by course }
 {
     match course {
-        Course::Refused(answer) => answer,
+        Course::Refused(refusal) => u8::from(refusal),
         Course::HeldBack(_) | Course::TakesPlace(..) => 0,
     }
 }
@@ -179,34 +184,38 @@ fn reference_by(outcome: Outcome, reference: Price) -> Price
     }
 }
 
+// The auction that a call asks for, where nothing refuses it.
+fn asked(which: u8, phase: Phase, size: usize) -> Result<Auction, Refusal>
+    ensures { numbered_answer result ≡ answered (auction_rows phase which size) Err (Ok (auction_from which)) }
+{
+    let auction = Auction::try_from(which)?;
+    refusals::auction_refusal(phase, auction, size)?;
+    Ok(auction)
+}
+
 // Whether a call is refused, and else which outcome its auction has at this moment. The ranks of both sides go to the list, those of the
 // buys first.
 pub fn planned(
     which: u8,
-    phase: Phase,
     size: usize,
-    delayed: bool,
-    threshold: u16,
-    reference: u32,
+    standing: Standing,
+    threshold: DelayThreshold,
     book: &Book,
     ranks: &mut [u64],
 ) -> Plan
     requires { places ≤ length ranks.old }
-    ensures { Planned which phase size delayed threshold reference book.now.side book.now.validity book.now.limit book.now.number book.now.left result ranks.new }
+    ensures { Planned which standing.phase size standing.delayed threshold.0 standing.reference.0 book.now.side book.now.validity book.now.limit book.now.number book.now.left result ranks.new }
 {
-    let AuctionMade::Good(auction) = Auction::new(which) else {
-        return turned_down(1);
+    let auction = match asked(which, standing.phase, size) {
+        Ok(auction) => auction,
+        Err(refusal) => return turned_down(refusal),
     };
-    let answer = refusals::auction_refusal(phase, auction, size);
-    if answer != 0 {
-        return turned_down(answer);
-    }
     let view = auction::outlook(
         ranks,
         auction,
-        held(auction, delayed),
-        threshold,
-        reference,
+        held(auction, standing.delayed),
+        threshold.number(),
+        standing.reference.number(),
         book,
     );
     Plan {

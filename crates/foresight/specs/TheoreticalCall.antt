@@ -1,5 +1,5 @@
 -- The theoretical answer from what its code learns on the way, for the promise of `theoretical`.
-use Rattle.std.specs.Prelude.{ℕ, true, false, ◌≢◌, ◌≡◌, List}
+use Rattle.std.specs.Prelude.{ℕ, true, false, ◌≢◌, ◌≡◌, List, Result, Ok, Err}
 use Rattle.std.proofs.Common.{sym, ◌∙◌, arith}
 use Rattle.terms.specs.Orders.{is_auction, auction_from}
 use Rattle.terms.specs.declared.orders.{Auction.Auction}
@@ -10,7 +10,13 @@ use Rattle.session.specs.State.{part}
 use Rattle.courses.specs.declared.{AuctionAnswer.AuctionAnswer}
 use Rattle.courses.specs.Answer.{answer_of}
 use Rattle.answers.specs.Auctions.{outcome_of}
+use Rattle.foresight.specs.declared.{Foreseen.Foreseen}
 use Rattle.foresight.specs.Theoretical.{theoretical_checks, theoretical_refused, theoretical_done, theoretical}
+
+-- what is returned where it is foreseen, or refused with a number
+abbrev pub foreseen_by : Result AuctionAnswer ℕ → Foreseen
+foreseen_by (Ok result) = record { answer = 0; result = result }
+foreseen_by (Err n) = theoretical_refused n
 
 module _ (s : Session) (which : ℕ) where
   abbrev foresights : List Check

@@ -6,13 +6,16 @@ ghost use Rattle.std.specs.Prelude.{◌≡◌};
 ghost use Rattle.courses.specs.Answer.{answer_of};
 ghost use Rattle.answers.specs.Auctions.{outcome_of};
 ghost use Rattle.foresight.specs.Theoretical.{theoretical};
+ghost use Rattle.foresight.specs.TheoreticalCall.{foreseen_by};
+ghost use Rattle.refusals.specs.Numbers.{numbered_answer};
 ghost use Rattle.session.specs.Sound.{Sound};
 ghost use Rattle.session.specs.State.{part};
 
 use auction::Outcome;
 use courses::{AuctionAnswer, answer_with, held, no_answer};
+use refusals::Refusal;
 use session::Session;
-use terms::{Auction, AuctionMade, Place};
+use terms::{Auction, Place};
 
 #[derive(Clone, Copy)]
 pub struct Foreseen {
@@ -21,31 +24,40 @@ pub struct Foreseen {
 }
 
 // The four numbers, where it is not refused.
-fn foreseen_now(session: Session, auction: Auction) -> AuctionAnswer
-    requires { Sound session }
-    ensures { result ≡ answer_of (outcome_of session auction) (part session auction) }
+fn foreseen_now(session: &Session, auction: Auction) -> AuctionAnswer
+    requires { Sound session.now }
+    ensures { result ≡ answer_of (outcome_of session.now auction) (part session.now auction) }
 {
     let mut ranks = [0u64; Place::COUNT];
-    let parameters = session.parameters;
     let view = auction::outlook(
         &mut ranks,
         auction,
         held(auction, session.delayed),
-        parameters.threshold.number(),
+        session.parameters.threshold.number(),
         session.reference.number(),
         &session.book,
     );
-    let outcome = view.outcome;
-    let bids = view.bids;
-    let behind = bids + view.asks;
-    let both = &ranks[..];
-    let count = match outcome {
-        Outcome::Traded { quantity, .. } => {
-            auction::count_trades(quantity, &session.book, &both[..bids], &both[bids..behind])
-        }
+    let asks_end = view.bids + view.asks;
+    let count = match view.outcome {
+        Outcome::Traded { quantity, .. } => auction::count_trades(
+            quantity,
+            &session.book,
+            &ranks[..view.bids],
+            &ranks[view.bids..asks_end],
+        ),
         Outcome::NoTrade | Outcome::NonOpening | Outcome::Delayed { .. } => 0,
     };
-    answer_with(outcome, count)
+    answer_with(view.outcome, count)
+}
+
+// .. or why it is refused: 1, 2, 4.
+fn foretold(session: &Session, which: u8) -> Result<AuctionAnswer, Refusal>
+    requires { Sound session.now }
+    ensures { foreseen_by (numbered_answer result) ≡ theoretical session.now which }
+{
+    let auction = Auction::try_from(which)?;
+    refusals::theoretical_refusal(session.phase, auction)?;
+    Ok(foreseen_now(session, auction))
 }
 
 // Theoretical answer: refusals 1, 2, 4.
@@ -53,22 +65,11 @@ pub fn theoretical(session: Session, which: u8) -> Foreseen
     requires { Sound session }
     ensures { result ≡ theoretical session which }
 {
-    let AuctionMade::Good(auction) = Auction::new(which) else {
-        return Foreseen {
-            answer: 1,
+    match foretold(&session, which) {
+        Ok(result) => Foreseen { answer: 0, result },
+        Err(refusal) => Foreseen {
+            answer: u8::from(refusal),
             result: no_answer(),
-        };
-    };
-    let phase = session.phase;
-    let answer = refusals::theoretical_refusal(phase, auction);
-    if answer != 0 {
-        return Foreseen {
-            answer,
-            result: no_answer(),
-        };
-    }
-    Foreseen {
-        answer: 0,
-        result: foreseen_now(session, auction),
+        },
     }
 }
