@@ -53,8 +53,7 @@ fn walk(rt: &(impl Input + Print), errors: &impl Print, input: &mut [u8], out: &
             Next::Record(record, behind) => {
                 count += 1;
                 let r = carried_out(desk, record, count, &mut list, out, at);
-                let later = r.desk;
-                desk = later;
+                desk = r.session;
                 at = r.at;
                 from = behind;
             }
