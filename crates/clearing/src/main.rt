@@ -27,8 +27,7 @@ fn say(errors: &impl Print, line: &[u8]) {
 
 // What was gathered goes to standard output.
 fn print(rt: &impl Print, errors: &impl Print, text: &[u8]) {
-    let is_written = rt.write_all(text).is_ok();
-    if !is_written {
+    if rt.write_all(text).is_err() {
         say(errors, b"clearing: standard output can't be written\n");
     }
 }
@@ -40,22 +39,22 @@ fn walk(rt: &(impl Input + Print), errors: &impl Print, input: &mut [u8], out: &
 {
     let mut list = [0u32; Session::TRADE_LIST];
     let mut desk = Desk::fresh();
-    let mut from: usize = 0;
-    let mut to: usize = 0;
-    let mut ended = false;
+    let mut held = Held {
+        from: 0,
+        to: 0,
+        ended: false,
+    };
     let mut count: u64 = 0;
     let mut at: usize = 0;
-    let mut left = MOST_TURNS;
-    while left > 0 {
-        left -= 1;
-        let next = next_told(&input[..to], from, ended, out.len() - at);
+    for _left in (0..MOST_TURNS).rev() {
+        let next = next_told(&input[..held.to], held.from, held.ended, out.len() - at);
         match next {
             Next::Record(record, behind) => {
                 count += 1;
                 let r = carried_out(desk, record, count, &mut list, out, at);
                 desk = r.session;
                 at = r.at;
-                from = behind;
+                held.from = behind;
             }
             Next::Stop(stop) => match stop {
                 Stop::Full => {
@@ -64,23 +63,15 @@ fn walk(rt: &(impl Input + Print), errors: &impl Print, input: &mut [u8], out: &
                 }
                 Stop::Waits => {
                     // It holds fewer bytes than a record can have, so there is room for a read.
-                    let held = read_behind(
+                    held = read_behind(
                         rt,
                         errors,
                         input,
-                        Held { from, to, ended },
+                        held,
                         b"clearing: standard input can't be read further; it is taken to end here\n",
                     );
-                    from = held.from;
-                    to = held.to;
-                    ended = held.ended;
                 }
-                Stop::Fault => {
-                    let end = last_lines(out, at, count, stop);
-                    print(rt, errors, &out[..end]);
-                    return desk;
-                }
-                Stop::End => {
+                Stop::Fault | Stop::End => {
                     let end = last_lines(out, at, count, stop);
                     print(rt, errors, &out[..end]);
                     return desk;

@@ -109,6 +109,7 @@ fn left_of<'a>(
             return *open;
         }
     }
+    0
 }
 
 // .. and of each order of a queue; how many they are.

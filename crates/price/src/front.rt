@@ -33,7 +33,8 @@ impl Front {
 }
 
 impl<'a> RankedQueue<'a> {
-    // The front with all that follow and have ranks below the bound.
+    // The front with all that follow and have ranks below the bound. Its count goes on from where it is, here and back below: a `for` would take
+    // the rest of the list and count beside it.
     fn longer(&self, front: Front, bound: u64) -> Front
         requires { IsFront self.now.book.now.left self.now.ranks.now front.count front.total }
         ensures { IsFront self.now.book.now.left self.now.ranks.now result.count result.total

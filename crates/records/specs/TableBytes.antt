@@ -152,11 +152,11 @@ module _ (s : Start) where
   later-back : (k i : ℕ) → i ≡ suc (2 * n + k) → get_or ns i 0 ≡ get_or later k 0
   later-back k i e = rw e (behind-rows n k rs later)
 
-  made : {rows : List Row} {a b c d : ℕ} → rows ≡ rs → a ≡ s.reference → b ≡ s.factor → c ≡ s.threshold → d ≡ s.most
+  start-made : {rows : List Row} {a b c d : ℕ} → rows ≡ rs → a ≡ s.reference → b ≡ s.factor → c ≡ s.threshold → d ≡ s.most
       → ◌≡◌ {A = Start} (record { table = record { count = n; rows = rows }; reference = a; factor = b; threshold = c; most = d }) s
-  made p a b c d = rw (p, a, b, c, d)
+  start-made p a b c d = rw (p, a, b, c, d)
 
-  pub bands-back : T (is_table s.table) → as_bands n ns ≡ s
+  pub bands-back : T (is_table s.table) → as_bands s.table.count (numbers_of (Record.Bands s)) ≡ s
   bands-back h =
       let parts = table-parts s.table h in
-      made (rows-back parts.placed parts.unused) (later-back 0 _ (omega arith)) (later-back 1 _ (omega arith)) (later-back 2 _ (omega arith)) (later-back 3 _ (omega arith))
+      start-made (rows-back parts.placed parts.unused) (later-back 0 _ (omega arith)) (later-back 1 _ (omega arith)) (later-back 2 _ (omega arith)) (later-back 3 _ (omega arith))

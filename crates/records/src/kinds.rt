@@ -2,7 +2,7 @@
 // byte (D1), and its header (01 "Session file").
 ghost use Rattle.std.specs.Prelude.{◌≡◌, refl, ℕ, ◌+◌, ◌≤◌, ◌<◌, false, eqb, length};
 ghost use Rattle.terms.specs.Bounds.{max_rows};
-ghost use Rattle.records.specs.Fields.{number, header_length, band_widths, whole_length, kind_length, record_of, start_fields, order_fields, delete_fields, auction_field, quote_fields, row_field, table_fields, bands_fields};
+ghost use Rattle.records.specs.Fields.{number, header_length, band_widths, whole_length, kind_length, record_of, row_field, table_fields, bands_fields};
 ghost use Rattle.records.specs.Walk.{length_at, part_at};
 ghost use Rattle.records.specs.Headers.{Headed, Unheaded, header_at};
 
@@ -28,7 +28,7 @@ pub struct Deletion {
     pub number: u32,
 }
 
-// The kinds of record and their lengths.
+// The kinds of record and their lengths. Numbers and no enum, so that the head of each is a constant by which one compare tells it.
 #[derive(Clone, Copy)]
 pub struct Kind;
 
@@ -79,8 +79,26 @@ impl Kind {
     pub fn bands_length(count: u16) -> usize
         ensures { result ≡ whole_length (band_widths count) }
     {
-        Kind::BANDS_LENGTH + BandsPart::ROW * count as usize
+        Kind::BANDS_LENGTH + BandsPart::ROW * usize::from(count)
     }
+}
+
+// A kind of one length, and how the fields of its record are read.
+trait Part {
+    // Its number.
+    ghost kind: { ℕ };
+
+    // How many bytes its records have, with the header.
+    ghost LENGTH: { ℕ };
+
+    const LENGTH: usize;
+
+    fn read(part: &[u8]) -> Record
+        ensures { result ≡ record_of kind part.now };
+
+    ghost known: { eqb (kind_length kind) 0 ≡ false };
+
+    ghost long: { LENGTH ≡ kind_length kind };
 }
 
 // Each field starts where the one before it ends.
@@ -101,6 +119,28 @@ impl StartPart {
     pub const END: usize = StartPart::MOST + 8;
 }
 
+impl Part for StartPart {
+    ghost kind = { 1 };
+
+    ghost LENGTH = { kind_length 1 };
+
+    const LENGTH: usize = Kind::START_LENGTH;
+
+    fn read(part: &[u8]) -> Record {
+        Record::Start(OneStep {
+            step: four(part, StartPart::STEP),
+            reference: four(part, StartPart::REFERENCE),
+            factor: two(part, StartPart::FACTOR),
+            threshold: two(part, StartPart::THRESHOLD),
+            most: eight(part, StartPart::MOST),
+        })
+    }
+
+    ghost known = { refl };
+
+    ghost long = { refl };
+}
+
 #[derive(Clone, Copy)]
 pub struct OrderPart;
 
@@ -118,6 +158,28 @@ impl OrderPart {
     pub const END: usize = OrderPart::LIMIT + 4;
 }
 
+impl Part for OrderPart {
+    ghost kind = { 2 };
+
+    ghost LENGTH = { kind_length 2 };
+
+    const LENGTH: usize = Kind::ORDER_LENGTH;
+
+    fn read(part: &[u8]) -> Record {
+        Record::Order(Entry {
+            member: two(part, OrderPart::MEMBER),
+            side: byte(part, OrderPart::SIDE),
+            validity: byte(part, OrderPart::VALIDITY),
+            quantity: four(part, OrderPart::QUANTITY),
+            limit: four(part, OrderPart::LIMIT),
+        })
+    }
+
+    ghost known = { refl };
+
+    ghost long = { refl };
+}
+
 #[derive(Clone, Copy)]
 pub struct DeletePart;
 
@@ -129,6 +191,25 @@ impl DeletePart {
     pub const END: usize = DeletePart::MEMBER + 2;
 }
 
+impl Part for DeletePart {
+    ghost kind = { 3 };
+
+    ghost LENGTH = { kind_length 3 };
+
+    const LENGTH: usize = Kind::DELETE_LENGTH;
+
+    fn read(part: &[u8]) -> Record {
+        Record::Delete(Deletion {
+            member: two(part, DeletePart::MEMBER),
+            number: four(part, DeletePart::NUMBER),
+        })
+    }
+
+    ghost known = { refl };
+
+    ghost long = { refl };
+}
+
 #[derive(Clone, Copy)]
 pub struct AuctionPart;
 
@@ -138,6 +219,23 @@ impl AuctionPart {
     pub const END: usize = AuctionPart::WHICH + 1;
 }
 
+impl Part for AuctionPart {
+    ghost kind = { 4 };
+
+    ghost LENGTH = { kind_length 4 };
+
+    const LENGTH: usize = Kind::AUCTION_LENGTH;
+
+    fn read(part: &[u8]) -> Record {
+        Record::Auction(byte(part, AuctionPart::WHICH))
+    }
+
+    ghost known = { refl };
+
+    ghost long = { refl };
+}
+
+// A quote's fields (02 K2).
 #[derive(Clone, Copy)]
 pub struct QuotePart;
 
@@ -153,6 +251,31 @@ impl QuotePart {
     pub const ASK_LIMIT: usize = QuotePart::ASK_QUANTITY + 4;
 
     pub const END: usize = QuotePart::ASK_LIMIT + 4;
+}
+
+impl Part for QuotePart {
+    ghost kind = { 5 };
+
+    ghost LENGTH = { kind_length 5 };
+
+    const LENGTH: usize = Kind::QUOTE_LENGTH;
+
+    fn read(part: &[u8]) -> Record {
+        let member = two(part, QuotePart::MEMBER);
+        let bid = SideEntry {
+            quantity: four(part, QuotePart::BID_QUANTITY),
+            limit: four(part, QuotePart::BID_LIMIT),
+        };
+        let ask = SideEntry {
+            quantity: four(part, QuotePart::ASK_QUANTITY),
+            limit: four(part, QuotePart::ASK_LIMIT),
+        };
+        Record::Quote(QuoteEntry { member, bid, ask })
+    }
+
+    ghost known = { refl };
+
+    ghost long = { refl };
 }
 
 // A start by bands (02 K6): row count and rows; the later fields' places are counted from behind the rows on.
@@ -180,67 +303,12 @@ impl BandsPart {
     pub const END: usize = BandsPart::MOST + 8;
 }
 
-fn start_fields(part: &[u8]) -> OneStep
-    ensures { result ≡ start_fields part.now }
-{
-    OneStep {
-        step: four(part, StartPart::STEP),
-        reference: four(part, StartPart::REFERENCE),
-        factor: two(part, StartPart::FACTOR),
-        threshold: two(part, StartPart::THRESHOLD),
-        most: eight(part, StartPart::MOST),
-    }
-}
-
-fn order_fields(part: &[u8]) -> Entry
-    ensures { result ≡ order_fields part.now }
-{
-    Entry {
-        member: two(part, OrderPart::MEMBER),
-        side: byte(part, OrderPart::SIDE),
-        validity: byte(part, OrderPart::VALIDITY),
-        quantity: four(part, OrderPart::QUANTITY),
-        limit: four(part, OrderPart::LIMIT),
-    }
-}
-
-fn delete_fields(part: &[u8]) -> Deletion
-    ensures { result ≡ delete_fields part.now }
-{
-    Deletion {
-        member: two(part, DeletePart::MEMBER),
-        number: four(part, DeletePart::NUMBER),
-    }
-}
-
-fn auction_field(part: &[u8]) -> u8
-    ensures { result ≡ auction_field part.now }
-{
-    byte(part, AuctionPart::WHICH)
-}
-
-// A quote's fields (02 K2).
-fn quote_fields(part: &[u8]) -> QuoteEntry
-    ensures { result ≡ quote_fields part.now }
-{
-    let member = two(part, QuotePart::MEMBER);
-    let bid = SideEntry {
-        quantity: four(part, QuotePart::BID_QUANTITY),
-        limit: four(part, QuotePart::BID_LIMIT),
-    };
-    let ask = SideEntry {
-        quantity: four(part, QuotePart::ASK_QUANTITY),
-        limit: four(part, QuotePart::ASK_LIMIT),
-    };
-    QuoteEntry { member, bid, ask }
-}
-
 // A row, if it is counted (02 K6).
 fn row_at(part: &[u8], count: u16, index: usize) -> Row
     requires { index < max_rows }
     ensures { result ≡ row_field part.now count index }
 {
-    if count as usize <= index {
+    if usize::from(count) <= index {
         return Row::none();
     }
     let at = BandsPart::ROWS + BandsPart::ROW * index;
@@ -265,7 +333,7 @@ fn bands_fields(part: &[u8]) -> Start
     ensures { result ≡ bands_fields part.now }
 {
     let table = table_fields(part);
-    let behind = BandsPart::ROWS + BandsPart::ROW * table.count as usize;
+    let behind = BandsPart::ROWS + BandsPart::ROW * usize::from(table.count);
     Start {
         table,
         reference: four(part, behind + BandsPart::REFERENCE),
@@ -281,104 +349,6 @@ pub(crate) enum Header {
     Record(Record, usize),
     Cut,
     Bad,
-}
-
-// A kind of one length, and how the fields of its record are read.
-trait Part {
-    // Its number.
-    ghost kind: { ℕ };
-
-    // How many bytes its records have, with the header.
-    ghost LENGTH: { ℕ };
-
-    const LENGTH: usize;
-
-    fn read(part: &[u8]) -> Record
-        ensures { result ≡ record_of kind part.now };
-
-    ghost known: { eqb (kind_length kind) 0 ≡ false };
-
-    ghost long: { LENGTH ≡ kind_length kind };
-}
-
-impl Part for StartPart {
-    ghost kind = { 1 };
-
-    ghost LENGTH = { kind_length 1 };
-
-    const LENGTH: usize = Kind::START_LENGTH;
-
-    fn read(part: &[u8]) -> Record {
-        Record::Start(start_fields(part))
-    }
-
-    ghost known = { refl };
-
-    ghost long = { refl };
-}
-
-impl Part for OrderPart {
-    ghost kind = { 2 };
-
-    ghost LENGTH = { kind_length 2 };
-
-    const LENGTH: usize = Kind::ORDER_LENGTH;
-
-    fn read(part: &[u8]) -> Record {
-        Record::Order(order_fields(part))
-    }
-
-    ghost known = { refl };
-
-    ghost long = { refl };
-}
-
-impl Part for DeletePart {
-    ghost kind = { 3 };
-
-    ghost LENGTH = { kind_length 3 };
-
-    const LENGTH: usize = Kind::DELETE_LENGTH;
-
-    fn read(part: &[u8]) -> Record {
-        Record::Delete(delete_fields(part))
-    }
-
-    ghost known = { refl };
-
-    ghost long = { refl };
-}
-
-impl Part for AuctionPart {
-    ghost kind = { 4 };
-
-    ghost LENGTH = { kind_length 4 };
-
-    const LENGTH: usize = Kind::AUCTION_LENGTH;
-
-    fn read(part: &[u8]) -> Record {
-        Record::Auction(auction_field(part))
-    }
-
-    ghost known = { refl };
-
-    ghost long = { refl };
-}
-
-impl Part for QuotePart {
-    ghost kind = { 5 };
-
-    ghost LENGTH = { kind_length 5 };
-
-    const LENGTH: usize = Kind::QUOTE_LENGTH;
-
-    fn read(part: &[u8]) -> Record {
-        Record::Quote(quote_fields(part))
-    }
-
-    ghost known = { refl };
-
-    ghost long = { refl };
 }
 
 // The record behind the header of such a kind. Its length is constant, so that the field readers' tests vanish when compiled.
@@ -400,7 +370,7 @@ pub fn bands_from(bytes: &[u8], place: usize) -> Start
     ensures { result ≡ bands_fields (part_at bytes.now place) }
 {
     let from = place + Kind::HEADER_LENGTH;
-    let next = place + two(bytes, place) as usize;
+    let next = place + usize::from(two(bytes, place));
     bands_fields(&bytes[from..next])
 }
 
@@ -409,7 +379,7 @@ fn bands_at(bytes: &[u8], place: usize, head: u32) -> Header
     requires { Unheaded head bytes.now place }
     ensures { result ≡ header_at bytes.now place }
 {
-    if head / 65_536 != Kind::BANDS as u32 {
+    if head / 65_536 != u32::from(Kind::BANDS) {
         return Header::Bad;
     }
     let length = (head % 65_536) as usize;

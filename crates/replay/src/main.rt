@@ -31,23 +31,13 @@ pub struct Run {
 fn waits(stop: Stop) -> bool
     ensures { result ≡ waits_for stop }
 {
-    match stop {
-        Stop::Full => false,
-        Stop::Waits => true,
-        Stop::Fault => false,
-        Stop::End => false,
-    }
+    matches!(stop, Stop::Waits)
 }
 
 fn is_over(stop: Stop) -> bool
     ensures { result ≡ is_over stop }
 {
-    match stop {
-        Stop::Full => false,
-        Stop::Waits => false,
-        Stop::Fault => true,
-        Stop::End => true,
-    }
+    matches!(stop, Stop::Fault | Stop::End)
 }
 
 fn say(errors: &impl Print, line: &[u8]) {
@@ -75,8 +65,7 @@ fn next_held(rt: &impl Input, errors: &impl Print, input: &mut [u8], held: Held,
 fn print(rt: &impl Print, errors: &impl Print, text: &[u8], stop: Stop) -> Stop
     ensures { (result ≡ stop) ⊎ (result ≡ Stop.End) }
 {
-    let is_written = rt.write_all(text).is_ok();
-    if !is_written {
+    if rt.write_all(text).is_err() {
         say(errors, b"replay: standard output can't be written\n");
         return Stop::End;
     }
@@ -143,15 +132,11 @@ fn all_turns(
     ensures { WholeRun input.old output.old result input.new output.new }
 {
     let mut run = first();
-    let mut left = MOST_TURNS;
-    while left > 0 {
-        let next = turned(rt, errors, run, input, output);
-        run = next;
-        let stop = run.stop;
-        if is_over(stop) {
+    for _left in (0..MOST_TURNS).rev() {
+        run = turned(rt, errors, run, input, output);
+        if is_over(run.stop) {
             return run;
         }
-        left -= 1;
     }
     run
 }
@@ -161,8 +146,7 @@ fn main(rt: HostRuntime) {
     let mut input = [0u8; BUFFER];
     let mut output = [0u8; BUFFER];
     let last = all_turns(&rt, &errors, &mut input, &mut output);
-    let stop = last.stop;
-    if !is_over(stop) {
+    if !is_over(last.stop) {
         say(
             &errors,
             b"replay: the run's turns are used up; what follows is not told\n",

@@ -6,7 +6,7 @@ use records::{Piece, read_at};
 use writer::{Written, write_record};
 
 // What the last record was answered, and the place behind what was written; the record at which the copy ended, counted from 1; and whether it
-// is a fault.
+// is a fault. Not an enum of three endings: `Rewrites` and the theorem `good-file-rewritten` (K1b) speak of each of the three.
 #[derive(Clone, Copy)]
 pub struct Ending {
     pub written: Written,

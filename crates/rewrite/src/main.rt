@@ -4,8 +4,6 @@
 
 mod copy;
 
-ghost use Rattle.std.specs.Prelude.{◌≤◌, length};
-
 use copy::{Ending, rewritten};
 use feed::read_full;
 
@@ -13,10 +11,8 @@ use feed::read_full;
 const FILE: usize = 65_536;
 
 // A write that fails is passed over, here and in `tell`.
-fn show(rt: &impl Print, out: &[u8], end: usize)
-    requires { end ≤ length out.now }
-{
-    let _ = rt.write_all(&out[..end]);
+fn show(rt: &impl Print, out: &[u8]) {
+    let _ = rt.write_all(out);
 }
 
 // Why the record at which the copy ended was not written; nothing at the end of the file.
@@ -36,8 +32,6 @@ fn main(rt: HostRuntime) {
     let size = read_full(&rt, &mut file);
     let mut out = [0u8; FILE];
     let r = rewritten(&file[..size], &mut out);
-    let written = r.written;
-    let end = written.place;
-    show(&rt, &out, end);
+    show(&rt, &out[..r.written.place]);
     tell(&rt, r);
 }

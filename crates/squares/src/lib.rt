@@ -56,12 +56,10 @@ pub fn add_trades<'a>(
     requires { (length totals.old ≡ square_cells) × (4 * count ≤ length list.now) × Small rows.now × InBook (trades_read count list.now) × (total totals.old + volume (trades_read count list.now) < 2 ^ 64) }
     ensures { totals.new ≡ added_to (λ p. get_or rows.now p 0) (trades_read count list.now) totals.old }
 {
-    for i in 0..count {
-        let at = i * Trade::NUMBERS;
-        let buy = list[at] as usize;
-        let sell = list[at + 1] as usize;
-        let cell = cell_of(rows[buy], rows[sell]);
-        add_at(totals, cell, list[at + 2]);
+    let (trades, _) = list[..count * Trade::NUMBERS].as_chunks::<{ Trade::NUMBERS }>();
+    for &[buy, sell, quantity, _] in trades {
+        let cell = cell_of(rows[buy as usize], rows[sell as usize]);
+        add_at(totals, cell, quantity);
     }
 }
 

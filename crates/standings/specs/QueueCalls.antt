@@ -1,5 +1,5 @@
 -- The ranked queue and the filled front from what their code learns on the way, for the promises of `ranked` and `filled_front`.
-use Rattle.std.specs.Prelude.{ℕ, ◌≤◌, true, false, not, ◌&&◌, ◌||◌, ◌≢◌, ◌≡◌, List, [], map, ◌++◌, ltb, length, take, drop}
+use Rattle.std.specs.Prelude.{ℕ, ◌≤◌, true, false, not, ◌&&◌, ◌||◌, ◌≢◌, ◌≡◌, List, [], map, ◌++◌, ltb, length, take, drop, Result, Ok, Err}
 use Rattle.std.proofs.Math.Path.{sym, ap}
 use Rattle.std.proofs.Common.{◌∙◌, arith, ltb-false}
 use Rattle.std.proofs.lemmas.Simd.{map-map}
@@ -17,7 +17,12 @@ use Rattle.refusals.specs.Rows.{ranked_later}
 use Rattle.refusals.specs.Exactly.{clear}
 use Rattle.session.specs.declared.{Session.Session}
 use Rattle.session.specs.State.{part}
-use Rattle.standings.specs.Queues.{ranked_checks, queue_leaves, queue_refused, queue_done, ranked_numbers, queued, front_checks, front_answered, front_refused, front_done, list_of, filled_front}
+use Rattle.standings.specs.Queues.{QueueLeaves, ranked_checks, queue_leaves, queue_refused, queue_done, ranked_numbers, queued, front_checks, front_answered, front_refused, front_done, list_of, filled_front}
+
+-- what the call returns and leaves where so many are listed, or where it is refused with a number
+abbrev pub queue_by : Result ℕ ℕ → List ℕ → QueueLeaves
+queue_by (Ok n) list = queue_leaves (record { answer = 0; count = n }) list
+queue_by (Err n) list = queue_refused list n
 
 module _ (s : Session) (side which : ℕ) (list : List ℕ) where
   abbrev checks : List Check

@@ -27,7 +27,7 @@ pub struct Front {
 fn share_at(shares: &[u32], i: usize) -> u32
     ensures { result ≡ get_or shares.now i 0 }
 {
-    if i < shares.len() { shares[i] } else { 0 }
+    shares.get(i).copied().unwrap_or(0)
 }
 
 // The front after q of it is traded: the next share where nothing is left.

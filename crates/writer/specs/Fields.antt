@@ -1,12 +1,11 @@
--- A record's bytes as its code writes them: its header, then field by field; a number as its lower half and its higher one.
-use Rattle.std.specs.Prelude.{ℕ, ◌+◌, ◌/◌, ◌%◌, ◌^◌, ◌≤◌, ◌≡◌, refl, List, [], ◌∷◌, length}
+-- A record's bytes as its code writes them: its header, then field by field.
+use Rattle.std.specs.Prelude.{ℕ, ◌+◌, ◌≤◌, ◌≡◌, refl, List, [], ◌∷◌, length}
 use Rattle.std.proofs.Common.{sym, subst, append-nil, arith}
 use Rattle.lists.specs.Put.{Wrote, put-length, put_then}
 use Rattle.records.specs.declared.{kinds.Record.Record}
 use Rattle.records.specs.Fields.{header_length, layout_length}
 use Rattle.records.specs.Layout.{number_bytes, bytes_of, bytes_count}
 use Rattle.records.specs.Bytes.{widths_of, length_of, header_bytes, field_bytes, record_bytes}
-use Rattle.writer.specs.Numbers.{halves}
 
 width : (w n : ℕ) → length (number_bytes w n) ≡ w
 width w n = let e = rw (append-nil (number_bytes w n)) at (bytes_count (w ∷ []) (n ∷ []) refl) in omega (arith, e)
@@ -26,13 +25,6 @@ module _ (old one new : List ℕ) (at p r : ℕ) where
   room-behind text more room first =
       let kept = put-length old at text (omega arith) in
       rw (first.1, kept) (omega (arith, first.0))
-
-  -- the lower half, then the higher one
-  pub number-then : (m n x : ℕ) → at ≤ length old → Wrote old one at p (number_bytes m (x % 256 ^ m)) → Wrote one new p r (number_bytes n (x / 256 ^ m))
-      → Wrote old new at r (number_bytes (m + n) x)
-  number-then m n x room first second =
-      subst (λ (t : List ℕ). Wrote old new at r t) (halves m n x)
-      (put_then old one new at p r (number_bytes m (x % 256 ^ m)) (number_bytes n (x / 256 ^ m)) room first second)
 
   -- a field, and those behind it
   pub field-then : (w n : ℕ) (ws ns : List ℕ) → at + layout_length (w ∷ ws) ≤ length old → Wrote old one at p (number_bytes w n)

@@ -12,21 +12,14 @@ use records::{Deletion, Kind, Record};
 use terms::{Entry, OneStep, QuoteEntry, Row, Start, Table};
 
 // The fields that stand behind a start's step, or behind its rows.
-fn put_later(
-    out: &mut [u8],
-    at: usize,
-    reference: u32,
-    factor: u16,
-    threshold: u16,
-    most: u64,
-) -> usize
+fn put_later(out: &mut [u8], at: usize, start: Start) -> usize
     requires { at + layout_length (row_widths 0) ≤ length out.old }
-    ensures { Wrote out.old out.new at result (later_bytes reference factor threshold most) }
+    ensures { Wrote out.old out.new at result (later_bytes start.reference start.factor start.threshold start.most) }
 {
-    let p = put_four(out, at, reference);
-    let q = put_two(out, p, factor);
-    let r = put_two(out, q, threshold);
-    put_eight(out, r, most)
+    let p = put_four(out, at, start.reference);
+    let q = put_two(out, p, start.factor);
+    let r = put_two(out, q, start.threshold);
+    put_eight(out, r, start.most)
 }
 
 fn put_start(out: &mut [u8], at: usize, start: OneStep) -> usize
@@ -35,14 +28,7 @@ fn put_start(out: &mut [u8], at: usize, start: OneStep) -> usize
 {
     let p = put_four(out, at, Kind::START_HEAD);
     let q = put_four(out, p, start.step);
-    put_later(
-        out,
-        q,
-        start.reference,
-        start.factor,
-        start.threshold,
-        start.most,
-    )
+    put_later(out, q, start.as_start())
 }
 
 fn put_order(out: &mut [u8], at: usize, entry: Entry) -> usize
@@ -121,14 +107,7 @@ fn put_bands(out: &mut [u8], at: usize, start: Start) -> usize
     let q = put_two(out, p, Kind::BANDS);
     let r = put_two(out, q, count);
     let s = put_rows(out, r, table);
-    put_later(
-        out,
-        s,
-        start.reference,
-        start.factor,
-        start.threshold,
-        start.most,
-    )
+    put_later(out, s, start)
 }
 
 // How many bytes a record has, with its header.

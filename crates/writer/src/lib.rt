@@ -21,13 +21,7 @@ pub struct Written {
 fn has_room(buffer: &[u8], place: usize, size: usize) -> bool
     ensures { result ≡ not (ltb (length buffer.now) (place + size)) }
 {
-    if buffer.len() < place {
-        return false;
-    }
-    if buffer.len() - place < size {
-        return false;
-    }
-    true
+    place <= buffer.len() && size <= buffer.len() - place
 }
 
 // Writing a record: refusals 1, 12. On a refusal the buffer and the place stay.

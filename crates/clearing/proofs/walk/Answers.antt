@@ -10,15 +10,15 @@ use Rattle.clearing.proofs.walk.Goals as goal
 pub carried_out-r-requires : goal.carried_out-r-requires
 carried_out-r-requires g c =
     let l = c.loop-left in
-    let found = next-record (take l.to l.input) l.from l.ended (length l.out - l.at) (sym c.in-Record.ensures) in
+    let found = next-record (take l.held.to l.input) l.held.from l.held.ended (length l.out - l.at) (sym c.in-Record.ensures) in
     (reached-sound l.desk l.invariant.0, l.invariant.7, omega (arith, found.2, l.invariant.5))
 
 pub loop-left-preserved-in-Record : goal.loop-left-preserved-in-Record
 loop-left-preserved-in-Record g c =
     let l = c.loop-left in
     let r = c.carried_out-r in
-    let held : length (take l.to l.input) ≡ l.to = length-take-le l.to l.input l.invariant.2 in
-    let found = next-record (take l.to l.input) l.from l.ended (length l.out - l.at) (sym c.in-Record.ensures) in (
+    let held : length (take l.held.to l.input) ≡ l.held.to = length-take-le l.held.to l.input l.invariant.2 in
+    let found = next-record (take l.held.to l.input) l.held.from l.held.ended (length l.out - l.at) (sym c.in-Record.ensures) in (
       rw r.ensures.0 (reached-next l.desk c.in-Record.record l.invariant.0),
       omega (arith, found.1, held),
       l.invariant.2,
@@ -33,8 +33,8 @@ loop-left-preserved-in-Record g c =
 pub read_behind-held-requires : goal.read_behind-held-requires
 read_behind-held-requires g c =
     let l = c.loop-left in
-    let held : length (take l.to l.input) ≡ l.to = length-take-le l.to l.input l.invariant.2 in
-    let short = next-short (take l.to l.input) l.from l.ended (length l.out - l.at) (sym c.in-Stop.ensures ∙ ap Next.Stop c.in-Waits.is) in
+    let held : length (take l.held.to l.input) ≡ l.held.to = length-take-le l.held.to l.input l.invariant.2 in
+    let short = next-short (take l.held.to l.input) l.held.from l.held.ended (length l.out - l.at) (sym c.in-Stop.ensures ∙ ap Next.Stop c.in-Waits.is) in
     ((l.invariant.1, l.invariant.2), omega (arith, l.invariant.1, l.invariant.3, c.requires.0, held, short))
 
 pub slice_bounds-print-end-in-Fault : goal.slice_bounds-print-end-in-Fault
@@ -43,10 +43,3 @@ slice_bounds-print-end-in-Fault g c = ends-within _ _ _ _ _ c.last_lines-end.ens
 pub slice_bounds-print-end-in-Fault-2 : goal.slice_bounds-print-end-in-Fault-2
 slice_bounds-print-end-in-Fault-2 g c =
     sym (length-take-le _ _ (ends-within _ _ _ _ _ c.last_lines-end.ensures c.loop-left.invariant.5 c.last_lines-end.auto.out))
-
-pub slice_bounds-print-end-in-End : goal.slice_bounds-print-end-in-End
-slice_bounds-print-end-in-End g c = ends-within _ _ _ _ _ c.last_lines-end-in-End.ensures c.loop-left.invariant.5 c.last_lines-end-in-End.auto.out
-
-pub slice_bounds-print-end-in-End-2 : goal.slice_bounds-print-end-in-End-2
-slice_bounds-print-end-in-End-2 g c =
-    sym (length-take-le _ _ (ends-within _ _ _ _ _ c.last_lines-end-in-End.ensures c.loop-left.invariant.5 c.last_lines-end-in-End.auto.out))

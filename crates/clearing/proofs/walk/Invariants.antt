@@ -5,7 +5,4 @@ use Rattle.clearing.proofs.walk.Given as goal
 
 abbrev pub invariant-loop-left : goal.invariant-loop-left
 invariant-loop-left g l =
-    Reached l.desk × (l.from ≤ l.to) × (l.to ≤ length l.input) × (length l.input ≡ length l.initial.input) × (length l.out ≡ length l.initial.out) × (l.at ≤ length l.out) × (l.count + l.left ≤ 1099511627776) × (length l.list ≡ trade_list_length)
-
-abbrev pub decreases-loop-left : goal.decreases-loop-left
-decreases-loop-left g l = l.left
+    Reached l.desk × (l.held.from ≤ l.held.to) × (l.held.to ≤ length l.input) × (length l.input ≡ length l.initial.input) × (length l.out ≡ length l.initial.out) × (l.at ≤ length l.out) × (l.count + l._left ≤ 1099511627776) × (length l.list ≡ trade_list_length)

@@ -10,15 +10,15 @@ loop-left-init g c =
 
 pub returns-then-is_over : goal.returns-then-is_over
 returns-then-is_over g c =
-    underway-over c.loop-left.invariant.4 c.turned-next.ensures.2 (sym c.is_over.ensures ∙ c.if-is_over.true)
+    underway-over c.loop-left.invariant.4 c.turned-run.ensures.2 (sym c.is_over.ensures ∙ c.if-is_over.true)
 
 pub loop-left-preserved : goal.loop-left-preserved
 loop-left-preserved g c =
     let i = c.loop-left.invariant in
-    let made = c.turned-next.ensures in (
+    let made = c.turned-run.ensures in (
       rw i.2 at made.0,
       omega (arith, i.1, i.2, made.1, c.loop-left-test.true),
-      c.turned-next.auto.input ∙ i.2,
-      c.turned-next.auto.output ∙ i.3,
+      c.turned-run.auto.input ∙ i.2,
+      c.turned-run.auto.output ∙ i.3,
       underway-on i.4 c.loop-left-test.true made.2 (sym c.is_over.ensures ∙ c.if-is_over.false),
     )

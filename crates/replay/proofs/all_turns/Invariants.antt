@@ -7,7 +7,4 @@ use Rattle.replay.proofs.all_turns.Given as goal
 
 abbrev pub invariant-loop-left : goal.invariant-loop-left
 invariant-loop-left g l =
-    Going length_bound l.run × (l.run.answered + l.left * length_bound ≤ 2 ^ 57) × (length l.input ≡ length_bound) × (length l.output ≡ length l.initial.output) × Underway l.left l.initial.input l.initial.output l.run l.input l.output
-
-abbrev pub decreases-loop-left : goal.decreases-loop-left
-decreases-loop-left g l = l.left
+    Going length_bound l.run × (l.run.answered + l._left * length_bound ≤ 2 ^ 57) × (length l.input ≡ length_bound) × (length l.output ≡ length l.initial.output) × Underway l._left l.initial.input l.initial.output l.run l.input l.output

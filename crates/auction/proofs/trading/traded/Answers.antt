@@ -1,14 +1,12 @@
 use native.Mathlib.Omega.{arith}
-use mathlib.Core.Path.{ap}
-use lib.ListN.{length}
 use Rattle.auction.specs.Trading.{trades_in, left_in}
-use Rattle.auction.proofs.Composed.{few-trades}
+use Rattle.auction.proofs.Composed.{few-filled}
 use Rattle.auction.proofs.trading.traded.Goals as goal
 
 pub overflow_cast-result : goal.overflow_cast-result
 overflow_cast-result c = let b = c.filled-bids in
     let s = c.filled-asks in
-    omega (arith, c.pair-count.ensures.0, few-trades c.args.numbers.now b.result.ranks.now b.result.shares.now s.result.ranks.now s.result.shares.now, b.result.covered, s.result.covered, ap length b.ensures.0, ap length s.ensures.0, c.requires)
+    omega (arith, c.pair-count.ensures.0, few-filled c.args.numbers.now b.result s.result (rw b.ensures.0 c.requires.0) (rw s.ensures.0 c.requires.1))
 
 pub returns : goal.returns
 unfolding trades_in left_in

@@ -1,5 +1,5 @@
 use Rattle.std.proofs.lemmas.Grind.{common_steps}
-use Rattle.std.proofs.Common.{arith, ◌≡◌, ◌+◌, map}
+use Rattle.std.proofs.Common.{◌∙◌, arith, ◌≡◌, ◌+◌, map}
 use Rattle.std.specs.List.{range_with_len}
 use Rattle.records.specs.Fields.{number}
 use Rattle.records.specs.Numbers.{bytes-four}
@@ -8,4 +8,4 @@ use Rattle.records.proofs.numbers.four.Goals as goal
 pub returns : goal.returns
 returns c = let a = c.args in
     let each : c.from_fn.result ≡ map (λ i. number a.bytes.now (a.at + i) 1) (range_with_len 0 4) = grind (arith, common_steps) in
-    rw (c.from_le_bytes.ensures, each) (bytes-four a.bytes.now a.at)
+    c.from_le_bytes.ensures ∙ rw each (bytes-four a.bytes.now a.at)

@@ -1,6 +1,5 @@
-use native.Mathlib.Omega.{arith}
-use Rattle.writer.specs.Fields.{number-then}
+use Rattle.writer.specs.Numbers.{number-put}
 use Rattle.writer.proofs.numbers.put_four.Goals as goal
 
 pub returns : goal.returns
-returns c = number-then _ _ _ _ _ _ 2 2 c.args.x (omega (arith, c.requires)) c.put_two-p.ensures c.put_two.ensures
+returns c = number-put _ _ _ _ 4 c.args.x c.to_le_bytes.ensures c.put_bytes.ensures
