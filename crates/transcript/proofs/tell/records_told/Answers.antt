@@ -5,6 +5,7 @@ use lib.ListN.{length}
 use Rattle.terms.specs.Bounds.{places}
 use Rattle.book.specs.Hints.{sound-numbered}
 use Rattle.book.specs.declared.Book.{Book}
+use Rattle.session.specs.declared.{Session.Session}
 use Rattle.session.specs.Sound.{legal_price}
 use Rattle.session.specs.State.{with_book}
 use Rattle.lines.specs.Line.{numbered_line, done_line, quote_line}
