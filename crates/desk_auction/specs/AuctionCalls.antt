@@ -31,7 +31,7 @@ use Rattle.courses.specs.Answer.{answer_with}
 use Rattle.courses.specs.Course.{result_by, takes_place}
 use Rattle.answers.specs.Auctions as plain
 use Rattle.answers.specs.Auctions.{AuctionLeaves, auction_leaves}
-use Rattle.answers.proofs.AuctionCalls.{course_now, taken_trades, taken-fits, taken-volume, taken-ranks, taken-count}
+use Rattle.answers.proofs.AuctionCalls.{IsCourseNow, taken_trades, taken-fits, taken-volume, taken-ranks, taken-count}
 use Rattle.squares.specs.Square.{InBook, total, added_to}
 use Rattle.squares.specs.Naming.{named, place_column, renamed, renamed-written}
 use Rattle.squares.specs.Pairs.{pairs-named, pairs_of, along-named, at-a-rank, named-volume, added-named}
@@ -50,7 +50,7 @@ member_of_lem (x ∷ os) (others, d) o m =
 
 -- an answer that counts no trades
 pub none-counted : (course : Course) → takes_place course ≡ false → (result_by course 0).count ≡ 0
-none-counted (Refused n) h = refl
+none-counted (Refused r) h = refl
 none-counted (HeldBack o) h = nothing o
   where
     nothing : (o : Outcome) → (answer_with o 0).count ≡ 0
@@ -65,13 +65,14 @@ module _ (d : Desk) (sound : SoundDesk d) (which : ℕ) (list : List ℕ) where
   s = d.session
 
   -- the session's equation makes the desk's
-  pub cleared-leaves : (l : AuctionLeaves Session) → l ≡ plain.auctioned s which list → (totals : List ℕ) → totals ≡ added_to (row_of_order d) (trades_listed l) d.totals
-      → auction_leaves (record { answer = l.returned.answer; result = l.returned.result; session = with_totals d l.returned.session totals }) l.list ≡ auctioned d which list
+  pub cleared-leaves : (l : AuctionLeaves Session) → l ≡ plain.auctioned s which list → (now : Desk) {after : Session} {totals : List ℕ} → now ≡ with_totals d after totals
+      → totals ≡ added_to (row_of_order d) (trades_listed l) d.totals
+      → auction_leaves (record { answer = l.returned.answer; result = l.returned.result; session = with_totals now l.returned.session now.totals }) l.list ≡ auctioned d which list
   unfolding auctioned
-  cleared-leaves l e totals t = rw t (ap (cleared_by d) e)
+  cleared-leaves l e now n t = rw (n, t) (ap (cleared_by d) e)
 
   -- an auction that takes place
-  module _ (course : Course) (is : course ≡ course_now s sound.inner which list) {b : Auction} {p : Outcome} (takes : course ≡ TakesPlace b p) (ranks : List ℕ) (bids asks : ℕ)
+  module _ (course : Course) (is : IsCourseNow s sound.inner which list course) {b : Auction} {p : Outcome} (takes : course ≡ TakesPlace b p) (ranks : List ℕ) (bids asks : ℕ)
       (buys : first_hit (plain.auction_checks s which (length list)) ≡ 0 → take bids ranks ≡ ranks_on s.book (auction_from which) Buy)
       (sells : first_hit (plain.auction_checks s which (length list)) ≡ 0 → take asks (drop bids ranks) ≡ ranks_on s.book (auction_from which) Sell) where
     -- its trades by places, and under the orders' numbers

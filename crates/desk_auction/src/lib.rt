@@ -4,104 +4,69 @@
 
 ghost use Rattle.std.specs.Prelude.{◌≡◌};
 ghost use Rattle.desk.specs.Sound.{SoundDesk};
-ghost use Rattle.desk_auction.specs.Auctions.{auction_leaves, auctioned};
+ghost use Rattle.answers.specs.Auctions.{auction_leaves};
+ghost use Rattle.desk_auction.specs.Auctions.{auctioned};
 
+use answers::Auctioned;
 use courses::{
-    AuctionAnswer, Course, Standing, answer_of, planned, price_of, quantity_of, result_of,
-    standing_after,
+    Course, Standing, answer_of, planned, price_of, quantity_of, result_of, standing_after,
 };
 use desk::Desk;
-use session::Session;
 use squares::{clear_trades, place_column};
 use terms::Place;
 
-#[derive(Clone, Copy)]
-pub struct Auctioned {
-    pub answer: u8,
-    pub result: AuctionAnswer,
-    pub desk: Desk,
-}
-
 // Auction: refusals 1, 2, 4, 12. The trades are paired by places, so that their rows are at hand, and told by their orders' numbers once they are
-// added. The session is changed as in `answers`: by value it would stand on the stack once more.
-pub fn auction(desk: Desk, which: u8, list: &mut [u32]) -> Auctioned
+// added. The desk is changed in place as in `answers`: by value it would stand on the stack once more.
+// Its twin there names the trades by a column of the book that it settles and has no cells: one function for both would take a copy of that column and
+// a closure between the trades and the settling, and its promise would speak of both.
+pub fn auction(mut desk: Desk, which: u8, list: &mut [u32]) -> Auctioned<Desk>
     requires { SoundDesk desk }
     ensures { auction_leaves result list.new ≡ auctioned desk which list.old }
 {
-    let mut session = desk.session;
-    let mut totals = desk.totals;
-    let rows = desk.rows;
-    let phase = session.phase;
-    let parameters = session.parameters;
+    let before = Standing {
+        phase: desk.session.phase,
+        delayed: desk.session.delayed,
+        reference: desk.session.reference,
+    };
     let mut ranks = [0u64; Place::COUNT];
     let plan = planned(
         which,
-        phase,
         list.len(),
-        session.delayed,
-        parameters.threshold.number(),
-        session.reference.number(),
-        &session.book,
+        before,
+        desk.session.parameters.threshold,
+        &desk.session.book,
         &mut ranks,
     );
-    let course = plan.course;
-    let mut count: u32 = 0;
-    if let Course::TakesPlace(auction, outcome) = course {
-        let bids = plan.bids;
-        let behind = bids + plan.asks;
-        let both = &ranks[..];
-        let spots = place_column();
+    let mut count = 0;
+    if let Course::TakesPlace(auction, outcome) = plan.course {
+        let asks_end = plan.bids + plan.asks;
         let closed = auction::traded(
             auction,
             price_of(outcome),
             quantity_of(outcome),
-            &spots,
-            &session.book,
-            &both[..bids],
-            &both[bids..behind],
+            &place_column(),
+            &desk.session.book,
+            &ranks[..plan.bids],
+            &ranks[plan.bids..asks_end],
             list,
         );
         count = closed.count;
         clear_trades(
-            &mut totals,
+            &mut desk.totals,
             list,
             count as usize,
-            &rows,
-            &session.book.number,
+            &desk.rows,
+            &desk.session.book.number,
         );
-        let rests = closed.rests;
-        session.book.settle(&rests);
+        desk.session.book.settle(&closed.rests);
     }
-    let answer = answer_of(course);
-    let result = result_of(course, count);
-    let before = Standing {
-        phase,
-        delayed: session.delayed,
-        reference: session.reference,
-    };
-    let standing = standing_after(course, before);
-    let later = standing.phase;
-    let reference = standing.reference;
-    let book = session.book;
-    let after = Session {
-        phase: later,
-        delayed: standing.delayed,
-        parameters,
-        reference,
-        given: session.given,
-        book,
-    };
-    let members = desk.members;
-    let cleared = Desk {
-        session: after,
-        members,
-        count: desk.count,
-        rows,
-        totals,
-    };
+    let after = standing_after(plan.course, before);
+    desk.session.phase = after.phase;
+    desk.session.delayed = after.delayed;
+    desk.session.reference = after.reference;
     Auctioned {
-        answer,
-        result,
-        desk: cleared,
+        answer: answer_of(plan.course),
+        result: result_of(plan.course, count),
+        session: desk,
     }
 }

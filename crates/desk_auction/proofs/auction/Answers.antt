@@ -1,97 +1,87 @@
-use Prim.Native.Nat.{ℕ}
-use mathlib.Core.Bool.{false}
 use mathlib.Core.Path.{◌≡◌, refl, sym, ap, ◌∙◌}
-use mathlib.Core.List.{List}
 use lib.ListN.{get_or}
 use Rattle.auction.proofs.TradingLaws.{asks-part}
-use Rattle.courses.specs.declared.{Course.Course, Course.TheVariants.Refused, Course.TheVariants.HeldBack, Course.TheVariants.TakesPlace}
-use Rattle.courses.specs.Course.{takes_place}
+use Rattle.desk.specs.declared.{Desk.Desk}
+use Rattle.courses.specs.Course.{not-taking, result_by}
 use Rattle.answers.specs.AuctionCalls.{leaves_as}
-use Rattle.answers.proofs.AuctionCalls.{course_now, course-planned, course-priced, leaves_kept, leaves-taken}
-use Rattle.trades.specs.Written.{trades_read}
-use Rattle.courses.specs.Course.{result_by}
-use Rattle.squares.specs.Square.{added_to, added_none}
+use Rattle.answers.proofs.AuctionCalls.{IsCourseNow, course-planned, course-priced, leaves_kept, leaves-taken}
+use Rattle.squares.specs.Square.{added_none}
 use Rattle.squares.specs.Naming.{renamed}
 use Rattle.desk_auction.specs.AuctionCalls.{cleared-leaves, none-counted, TradedBy, list-room, placed, below, counted-by-numbers, cells-after}
 use Rattle.desk_auction.specs.Auctions.{row_of_order}
 use Rattle.desk_auction.proofs.auction.Goals as goal
 use Rattle.desk_auction.proofs.auction.Goals.{in-TakesPlace, in_default}
-use Rattle.terms.specs.declared.orders.{Auction.Auction}
-use Rattle.auction.specs.declared.{Outcome.Outcome}
-use Rattle.desk_auction.proofs.auction.Goals.{After-planned-plan, After-traded-closed, Joined-course}
-
--- the ranks of both sides
-abbrev ranks : After-planned-plan → List ℕ
-ranks c = c.planned-plan.new.ranks
+use Rattle.desk_auction.proofs.auction.Goals.{After-planned-plan, After-traded-closed}
 
 -- the course is the one that the session has now
-course-is : (c : After-planned-plan) → let a = c.args in c.planned-plan.result.course ≡ course_now a.desk.session c.requires.inner a.which a.list.now
+course-is : (c : After-planned-plan) → let a = c.args in IsCourseNow a.desk.session c.requires.inner a.which a.list.now c.planned-plan.result.course
 course-is c = let a = c.args in
-    course-planned a.desk.session c.requires.inner a.which a.list.now c.number.result c.number-2.result c.number.ensures c.number-2.ensures c.planned-plan.ensures
+    course-planned a.desk.session c.requires.inner a.which a.list.now c.planned-plan.ensures
 
 -- what the trading by places leaves
-traded-is : (c : After-traded-closed)
-    → TradedBy c.args.desk c.requires c.args.which c.args.list.now c.planned-plan.result.course (course-planned c.args.desk.session c.requires.inner c.args.which c.args.list.now c.number.result c.number-2.result c.number.ensures c.number-2.ensures c.planned-plan.ensures) c.in-TakesPlace.is
-    c.planned-plan.new.ranks c.planned-plan.result.bids c.planned-plan.result.asks c.planned-plan.ensures.buys c.planned-plan.ensures.sells c.traded-closed.result c.traded-closed.new.list
-traded-is c = rw (asks-part c.planned-plan.result.bids c.planned-plan.result.asks c.planned-plan.new.ranks, c.price_of.ensures, c.quantity_of.ensures, c.place_column-spots.ensures) at c.traded-closed.ensures
+traded-is : (c : After-traded-closed) → let a = c.args in let plan = c.planned-plan in
+    TradedBy a.desk c.requires a.which a.list.now plan.result.course (course-planned a.desk.session c.requires.inner a.which a.list.now plan.ensures) c.in-TakesPlace.is
+    plan.new.ranks plan.result.bids plan.result.asks plan.ensures.buys plan.ensures.sells c.traded-closed.result c.traded-closed.new.list
+traded-is c = rw (asks-part c.planned-plan.result.bids c.planned-plan.result.asks c.planned-plan.new.ranks, c.price_of.ensures, c.quantity_of.ensures, c.place_column.ensures) at c.traded-closed.ensures
 
 pub clear_trades-requires : goal.clear_trades-requires
 clear_trades-requires c = let d = c.args.desk in
     let sound = c.requires in
     let takes = c.in-TakesPlace.is in
+    let is = course-is (goal.at.clear_trades-requires c).After-planned-plan in
     let traded = traded-is (goal.at.clear_trades-requires c).After-traded-closed in
     let list = c.args.list.now in
-    let which = c.args.which in (
+    let which = c.args.which in
+    let plan = c.planned-plan.result in
+    let ranks = c.planned-plan.new.ranks in
+    let buys = c.planned-plan.ensures.buys in
+    let sells = c.planned-plan.ensures.sells in (
       sound.totals-long,
-      list-room d sound which list c.planned-plan.result.course (course-is (goal.at.clear_trades-requires c).After-planned-plan) takes (ranks (goal.at.clear_trades-requires c).After-planned-plan) c.planned-plan.result.bids c.planned-plan.result.asks c.planned-plan.ensures.buys c.planned-plan.ensures.sells c.traded-closed.result _ traded,
+      list-room d sound which list plan.course is takes ranks plan.bids plan.asks buys sells c.traded-closed.result _ traded,
       sound.rows-small,
-      placed d sound which list c.planned-plan.result.course (course-is (goal.at.clear_trades-requires c).After-planned-plan) takes (ranks (goal.at.clear_trades-requires c).After-planned-plan) c.planned-plan.result.bids c.planned-plan.result.asks c.planned-plan.ensures.buys c.planned-plan.ensures.sells c.traded-closed.result _ traded,
-      below d sound which list c.planned-plan.result.course (course-is (goal.at.clear_trades-requires c).After-planned-plan) takes (ranks (goal.at.clear_trades-requires c).After-planned-plan) c.planned-plan.result.bids c.planned-plan.result.asks c.planned-plan.ensures.buys c.planned-plan.ensures.sells c.traded-closed.result _ traded,
+      placed d sound which list plan.course is takes ranks plan.bids plan.asks buys sells c.traded-closed.result _ traded,
+      below d sound which list plan.course is takes ranks plan.bids plan.asks buys sells c.traded-closed.result _ traded,
     )
 
--- where both ways meet, the course is still that one
-course-met : (c : Joined-course) → ◌≡◌ {A = Course} c.match-course.course c.planned-plan.result.course
-course-met c = elim c.match-course.branch [ in-TakesPlace w ↦ w.course-is ∙ sym w.in-TakesPlace.is | in_default w ↦ w.course-is ]
-
-course-at : (c : Joined-course) → let a = c.args in c.match-course.course ≡ course_now a.desk.session c.requires.inner a.which a.list.now
-course-at c = course-met c ∙ course-planned c.args.desk.session c.requires.inner c.args.which c.args.list.now c.number.result c.number-2.result c.number.ensures c.number-2.ensures c.planned-plan.ensures
-
--- a course of the first two cases doesn't take place
-not-taking : (course : Course) → ((a : Auction) (o : Outcome) → course ≡ TakesPlace a o → ⊥) → takes_place course ≡ false
-not-taking (Refused n) k = refl
-not-taking (HeldBack o) k = refl
-not-taking (TakesPlace a o) k = absurd (k a o refl)
-
-pub standing_after-standing-requires : goal.standing_after-standing-requires
-standing_after-standing-requires c = let a = c.args in
-    rw (course-at (goal.at.standing_after-standing-requires c).Joined-course) (course-priced a.desk.session c.requires.inner a.which a.list.now)
+pub standing_after-after-requires : goal.standing_after-after-requires
+standing_after-after-requires c = let a = c.args in
+    course-priced a.desk.session c.requires.inner a.which a.list.now c.planned-plan.result.course (course-is (goal.at.standing_after-after-requires c).After-planned-plan)
 
 pub returns : goal.returns
 returns c = let a = c.args in
     let d = a.desk in
+    let s = d.session in
     let sound = c.requires in
-    let course = c.match-course.course in
-    elim c.match-course.branch [
+    let now = c.match-plan.desk in
+    let plan = c.planned-plan.result in
+    let course = plan.course in
+    let is = course-is (goal.at.returns c).After-planned-plan in
+    let ranks = c.planned-plan.new.ranks in
+    let buys = c.planned-plan.ensures.buys in
+    let sells = c.planned-plan.ensures.sells in
+    let left = leaves_as c.answer_of.result c.result_of.result c.standing_after-after.result now.session c.match-plan.list in
+    elim c.match-plan.branch [
       | in-TakesPlace w ↦
-          let traded : TradedBy d sound a.which a.list.now course (course-at (goal.at.returns c).Joined-course) w.course-is (ranks (goal.at.returns c).After-planned-plan) c.planned-plan.result.bids c.planned-plan.result.asks c.planned-plan.ensures.buys c.planned-plan.ensures.sells w.traded-closed.result w.traded-closed.new.list =
-          rw (asks-part c.planned-plan.result.bids c.planned-plan.result.asks (ranks (goal.at.returns c).After-planned-plan), w.price_of.ensures, w.quantity_of.ensures, w.place_column-spots.ensures) at w.traded-closed.ensures in
-          let list : c.match-course.list ≡ renamed (λ place. get_or d.session.book.number place 0) w.traded-closed.result.count w.traded-closed.new.list = w.list-is ∙ w.clear_trades.ensures.1 in
-          let totals : c.match-course.totals ≡ added_to (λ place. get_or d.rows place 0) (trades_read w.traded-closed.result.count w.traded-closed.new.list) d.totals = w.totals-is ∙ w.clear_trades.ensures.0 in
-          let counted : c.result_of-result.result.count ≡ (result_by course w.traded-closed.result.count).count = rw (c.result_of-result.ensures, w.count-is) in
-          cleared-leaves d sound a.which a.list.now (leaves_as d.session c.answer_of-answer.result c.result_of-result.result c.standing_after-standing.result c.match-course.session c.match-course.list)
-          (leaves-taken d.session sound.inner a.which a.list.now course (course-at (goal.at.returns c).Joined-course) c.match-course.session c.match-course.count c.match-course.list
-          c.answer_of-answer.result c.answer_of-answer.ensures c.result_of-result.result c.result_of-result.ensures c.standing_after-standing.result c.standing_after-standing.ensures
-          w.course-is (ranks (goal.at.returns c).After-planned-plan) c.planned-plan.result.bids c.planned-plan.result.asks c.planned-plan.ensures.buys c.planned-plan.ensures.sells
-          w.settle.new.self w.session-is w.traded-closed.result w.count-is
-          (counted-by-numbers d sound a.which a.list.now course (course-at (goal.at.returns c).Joined-course) w.course-is (ranks (goal.at.returns c).After-planned-plan) c.planned-plan.result.bids c.planned-plan.result.asks c.planned-plan.ensures.buys c.planned-plan.ensures.sells w.traded-closed.result w.traded-closed.new.list traded c.match-course.list list)
+          let takes = w.in-TakesPlace.is in
+          let closed = w.traded-closed.result in
+          let traded : TradedBy d sound a.which a.list.now course is takes ranks plan.bids plan.asks buys sells closed w.traded-closed.new.list =
+          rw (asks-part plan.bids plan.asks ranks, w.price_of.ensures, w.quantity_of.ensures, w.place_column.ensures) at w.traded-closed.ensures in
+          let list : c.match-plan.list ≡ renamed (λ place. get_or s.book.number place 0) closed.count w.traded-closed.new.list = w.list-is ∙ w.clear_trades.ensures.1 in
+          let counted : c.result_of.result.count ≡ (result_by course closed.count).count = rw (c.result_of.ensures, w.count-is) in
+          cleared-leaves d sound a.which a.list.now left
+          (leaves-taken s sound.inner a.which a.list.now course is now.session c.match-plan.count c.match-plan.list
+          c.answer_of.result c.answer_of.ensures c.result_of.result c.result_of.ensures c.standing_after-after.result c.standing_after-after.ensures
+          takes ranks plan.bids plan.asks buys sells w.settle.new.self (ap (λ (d : Desk). d.session) w.desk-is) closed w.count-is
+          (counted-by-numbers d sound a.which a.list.now course is takes ranks plan.bids plan.asks buys sells closed w.traded-closed.new.list traded c.match-plan.list list)
           _ refl w.settle.ensures)
-          c.match-course.totals
-          (rw counted (cells-after d sound a.which a.list.now course (course-at (goal.at.returns c).Joined-course) w.course-is (ranks (goal.at.returns c).After-planned-plan) c.planned-plan.result.bids c.planned-plan.result.asks c.planned-plan.ensures.buys c.planned-plan.ensures.sells w.traded-closed.result w.traded-closed.new.list traded c.match-course.list list c.match-course.totals totals))
+          now w.desk-is
+          (rw counted (cells-after d sound a.which a.list.now course is takes ranks plan.bids plan.asks buys sells closed w.traded-closed.new.list traded c.match-plan.list list w.clear_trades.new.totals w.clear_trades.ensures.0))
       | in_default w ↦
-          let stays = ap takes_place w.course-is ∙ not-taking c.planned-plan.result.course w.in_default.not-TakesPlace in
-          let counted : c.result_of-result.result.count ≡ 0 = rw (c.result_of-result.ensures, w.count-is) (none-counted course stays) in
-          cleared-leaves d sound a.which a.list.now (leaves_as d.session c.answer_of-answer.result c.result_of-result.result c.standing_after-standing.result c.match-course.session c.match-course.list)
-          (leaves_kept d.session sound.inner a.which a.list.now course (course-at (goal.at.returns c).Joined-course) c.match-course.session c.match-course.count c.match-course.list
-          c.answer_of-answer.result c.answer_of-answer.ensures c.result_of-result.result c.result_of-result.ensures c.standing_after-standing.result c.standing_after-standing.ensures stays w.session-is w.count-is w.list-is)
-          c.match-course.totals (w.totals-is ∙ rw counted (sym (added_none (row_of_order d) refl d.totals)))
+          let stays = not-taking course w.in_default.not-TakesPlace in
+          let counted : c.result_of.result.count ≡ 0 = rw (c.result_of.ensures, w.count-is) (none-counted course stays) in
+          cleared-leaves d sound a.which a.list.now left
+          (leaves_kept s sound.inner a.which a.list.now course is now.session c.match-plan.count c.match-plan.list
+          c.answer_of.result c.answer_of.ensures c.result_of.result c.result_of.ensures c.standing_after-after.result c.standing_after-after.ensures
+          stays (ap (λ (d : Desk). d.session) w.desk-is) w.count-is w.list-is)
+          now {after = s} {totals = d.totals} w.desk-is (rw counted (sym (added_none (row_of_order d) refl d.totals)))
     ]
