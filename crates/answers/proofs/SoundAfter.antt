@@ -57,5 +57,5 @@ module _ (s : Session) (sound : Sound s) (a : Auction) where
 pub auctioned-sound : (s : Session) (which : ℕ) (list : List ℕ) → Sound s → Sound (auctioned s which list).returned.session
 unfolding auctioned
 auctioned-sound s which list sound =
-    answered-cases (auction_checks s which (length list)) (auction_refused s list) (auction_done s (auction_from which) list) (λ (l : AuctionLeaves). Sound l.returned.session) (λ n h e. sound)
+    answered-cases (auction_checks s which (length list)) (auction_refused s list) (auction_done s (auction_from which) list) (λ (l : AuctionLeaves Session). Sound l.returned.session) (λ n h e. sound)
     (λ e. after-sound s sound (auction_from which) (test-holds (has_started s.phase) (clear (auction_checks s which (length list)) tt e 2)) (outcome_of s (auction_from which)) refl)

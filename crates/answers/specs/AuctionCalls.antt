@@ -30,7 +30,7 @@ closed_by s a quantity reference = passed_on s (phase_after a) reference (settle
 abbrev pub standing_of : Session → Standing
 standing_of s = record { phase = s.phase; delayed = s.delayed; reference = s.reference }
 
-abbrev pub leaves_by : Session → Course → ℕ → Book → List ℕ → AuctionLeaves
+abbrev pub leaves_by : Session → Course → ℕ → Book → List ℕ → AuctionLeaves Session
 leaves_by s course count book list =
     auction_leaves (record {
       answer = answer_by course;
@@ -46,7 +46,7 @@ leaves_by s course count book list =
     }) list
 
 -- What the code puts together in the end: the numbers by the course, what the session stands at, and the rest of the session as it is now.
-abbrev pub leaves_as : ℕ → AuctionAnswer → Standing → Session → List ℕ → AuctionLeaves
+abbrev pub leaves_as : ℕ → AuctionAnswer → Standing → Session → List ℕ → AuctionLeaves Session
 leaves_as answer result standing now list =
     auction_leaves (record {
       answer = answer;

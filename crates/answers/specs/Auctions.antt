@@ -45,21 +45,21 @@ abbrev pub auction_checks : Session → ℕ → ℕ → List Check
 auction_checks s which size = auction_rows s.phase which size
 
 -- what the call returns, and the lent list as it leaves it
-pub record AuctionLeaves : Type 0 where
-  pub returned : Auctioned
+pub record AuctionLeaves (S : Type 0) : Type 0 where
+  pub returned : Auctioned S
   pub list : List ℕ
 
-abbrev pub auction_leaves : Auctioned → List ℕ → AuctionLeaves
+abbrev pub auction_leaves : {S : Type 0} → Auctioned S → List ℕ → AuctionLeaves S
 auction_leaves returned list = record { returned = returned; list = list }
 
-abbrev pub auction_refused : Session → List ℕ → ℕ → AuctionLeaves
+abbrev pub auction_refused : Session → List ℕ → ℕ → AuctionLeaves Session
 auction_refused s list n = record { returned = record { answer = n; result = no_answer; session = s }; list = list }
 
-abbrev pub auction_done : Session → Auction → List ℕ → AuctionLeaves
+abbrev pub auction_done : Session → Auction → List ℕ → AuctionLeaves Session
 auction_done s a list = record {
   returned = record { answer = 0; result = answer_of (outcome_of s a) (part s a); session = session_after s a (part s a) (outcome_of s a) };
   list = trades_written (price_answered (outcome_of s a)) (trades_now s a) list;
 }
 
-unfoldable pub auctioned : Session → ℕ → List ℕ → AuctionLeaves
+unfoldable pub auctioned : Session → ℕ → List ℕ → AuctionLeaves Session
 auctioned s which list = answered (auction_checks s which (length list)) (auction_refused s list) (auction_done s (auction_from which) list)

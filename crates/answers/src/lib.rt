@@ -12,16 +12,17 @@ use courses::{
 use session::Session;
 use terms::Place;
 
+// What the call returns, `S` as in `entries`.
 #[derive(Clone, Copy)]
-pub struct Auctioned {
+pub struct Auctioned<S> {
     pub answer: u8,
     pub result: AuctionAnswer,
-    pub session: Session,
+    pub session: S,
 }
 
 // Auction: refusals 1, 2, 4, 12. The trades go to the list, four numbers each, from its front. The session is changed in place
 // and leaves by one way out: with two, or by value to another function, the stack would hold it twice.
-pub fn auction(mut session: Session, which: u8, list: &mut [u32]) -> Auctioned
+pub fn auction(mut session: Session, which: u8, list: &mut [u32]) -> Auctioned<Session>
     requires { Sound session }
     ensures { auction_leaves result list.new ≡ auctioned session which list.old }
 {

@@ -52,7 +52,7 @@ fn walk(rt: &(impl Input + Print), errors: &impl Print, input: &mut [u8], out: &
             Next::Record(record, behind) => {
                 count += 1;
                 let r = carried_out(desk, record, count, &mut list, out, at);
-                desk = r.desk;
+                desk = r.session;
                 at = r.at;
                 held.from = behind;
             }

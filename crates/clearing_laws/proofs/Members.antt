@@ -7,7 +7,9 @@ use Rattle.terms.specs.declared.quote_terms.{QuoteEntry.QuoteEntry}
 use Rattle.squares.specs.Square.{joined}
 use Rattle.refusals.specs.Checks.{answered-cases}
 use Rattle.refusals.specs.Exactly.{clear}
-use Rattle.desk.specs.declared.{Desk.Desk, Entered.Entered, Quoted.Quoted}
+use Rattle.entries.specs.declared.{Entered.Entered}
+use Rattle.quotation.specs.declared.{Quoted.Quoted}
+use Rattle.desk.specs.declared.{Desk.Desk}
 use Rattle.desk.specs.Desk.{fresh_desk, known}
 use Rattle.desk.specs.Calls.{order_checks, order_refused, order_done, entered, quote_checks, quote_refused, quote_done, quoted}
 use Rattle.desk.specs.Sound.{SoundDesk}
@@ -27,16 +29,16 @@ not-accepted zero m h = absurd (h refl)
 not-accepted (suc n) m h = refl
 
 module _ (d : Desk) (sound : SoundDesk d) where
-  by_order : (e : Entry) → known (entered d e).desk ≡ joined_all (known d) (accepted_by d (Act.order e))
+  by_order : (e : Entry) → known (entered d e).session ≡ joined_all (known d) (accepted_by d (Act.order e))
   unfolding entered
   by_order e =
-      answered-cases (order_checks d e) (order_refused d) (order_done d e) (λ (r : Entered). known r.desk ≡ joined_all (known d) (if_accepted r.answer e.member))
+      answered-cases (order_checks d e) (order_refused d) (order_done d e) (λ (r : Entered Desk). known r.session ≡ joined_all (known d) (if_accepted r.answer e.member))
       (λ n h i. rw (not-accepted n e.member h)) (λ h. entering-joins d sound e.member (clear (order_checks d e) tt h 16) d.session d.rows)
 
-  by-quote : (e : QuoteEntry) → known (quoted d e).desk ≡ joined_all (known d) (accepted_by d (Act.quote e))
+  by-quote : (e : QuoteEntry) → known (quoted d e).session ≡ joined_all (known d) (accepted_by d (Act.quote e))
   unfolding quoted
   by-quote e =
-      answered-cases (quote_checks d e) (quote_refused d) (quote_done d e) (λ (r : Quoted). known r.desk ≡ joined_all (known d) (if_accepted r.answer e.member))
+      answered-cases (quote_checks d e) (quote_refused d) (quote_done d e) (λ (r : Quoted Desk). known r.session ≡ joined_all (known d) (if_accepted r.answer e.member))
       (λ n h i. rw (not-accepted n e.member h)) (λ h. entering-joins d sound e.member (clear (quote_checks d e) tt h 16) d.session d.rows)
 
   by_call : (c : Call) → known (after d c) ≡ joined_all (known d) (accepted d c)

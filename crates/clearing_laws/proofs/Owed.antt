@@ -30,7 +30,9 @@ use Rattle.session.specs.State.{part}
 use Rattle.session.specs.Sound.{legal_price}
 use Rattle.courses.specs.Answer.{answer_of}
 use Rattle.answers.specs.Auctions as auctions
-use Rattle.desk.specs.declared.{Desk.Desk, Entered.Entered, Quoted.Quoted}
+use Rattle.entries.specs.declared.{Entered.Entered}
+use Rattle.quotation.specs.declared.{Quoted.Quoted}
+use Rattle.desk.specs.declared.{Desk.Desk}
 use Rattle.desk.specs.Desk.{fresh_desk, known, row_in, with_totals, entering}
 use Rattle.desk.specs.Calls.{order_checks, order_refused, order_done, entered, quote_checks, quote_refused, quote_done, quoted}
 use Rattle.desk.specs.EntryCalls.{known-length}
@@ -89,15 +91,15 @@ entering-keeps d sound m s rows = record { same = refl; grown = more (eqb (row_i
         rw at (get_or-set_same d.members (row_in d m) m 0 (omega (arith, sound.few, sound.members-long)) ∙ sym (stands d sound m (omega arith)))
     still i h false e = get_or-set_other d.members (row_in d m) i m 0 (eqb-false i (row_in d m) e)
 
-ordered_keeps : (d : Desk) → SoundDesk d → (e : Entry) → Keeps d (entered d e).desk
+ordered_keeps : (d : Desk) → SoundDesk d → (e : Entry) → Keeps d (entered d e).session
 unfolding entered
 ordered_keeps d sound e =
-    answered-cases (order_checks d e) (order_refused d) (order_done d e) (λ (r : Entered). Keeps d r.desk) (λ n h i. keeps-all d) (λ i. entering-keeps d sound e.member _ _)
+    answered-cases (order_checks d e) (order_refused d) (order_done d e) (λ (r : Entered Desk). Keeps d r.session) (λ n h i. keeps-all d) (λ i. entering-keeps d sound e.member _ _)
 
-quoted-keeps : (d : Desk) → SoundDesk d → (e : QuoteEntry) → Keeps d (quoted d e).desk
+quoted-keeps : (d : Desk) → SoundDesk d → (e : QuoteEntry) → Keeps d (quoted d e).session
 unfolding quoted
 quoted-keeps d sound e =
-    answered-cases (quote_checks d e) (quote_refused d) (quote_done d e) (λ (r : Quoted). Keeps d r.desk) (λ n h i. keeps-all d) (λ i. entering-keeps d sound e.member _ _)
+    answered-cases (quote_checks d e) (quote_refused d) (quote_done d e) (λ (r : Quoted Desk). Keeps d r.session) (λ n h i. keeps-all d) (λ i. entering-keeps d sound e.member _ _)
 
 nothing : (t : Bool) (n : ℕ) → counted (t && false) n ≡ 0
 nothing true n = refl
@@ -193,11 +195,11 @@ resting-entered d sound o rests =
 
 -- ---- what an auction lists: trades of orders in the book, of its quantity, and only with outcome 1
 module _ (d : Desk) (sound : SoundDesk d) (which : ℕ) (list : List ℕ) where
-  abbrev l : auctions.AuctionLeaves
+  abbrev l : auctions.AuctionLeaves Session
   l = auctions.auctioned d.session which list
 
   -- answered 0 and 1, or nothing is listed and no quantity counts
-  abbrev OneOrNone : auctions.AuctionLeaves → Type 0
+  abbrev OneOrNone : auctions.AuctionLeaves Session → Type 0
   OneOrNone r = ((r.returned.answer ≡ 0) × (r.returned.result.outcome ≡ 1)) ⊎ ((trades_listed r ≡ []) × (quantity_of (cleared_by d r) ≡ 0))
 
   one-or-none : OneOrNone l
@@ -209,7 +211,7 @@ module _ (d : Desk) (sound : SoundDesk d) (which : ℕ) (list : List ℕ) where
       a : Auction
       a = auction_from which
 
-      leaves : Outcome → auctions.AuctionLeaves
+      leaves : Outcome → auctions.AuctionLeaves Session
       leaves o = auctions.auction_leaves (record { answer = 0; result = answer_of o (part d.session a); session = auctions.session_after d.session a (part d.session a) o })
           (trades_written (price_answered o) (trades o (part d.session a)) list)
 

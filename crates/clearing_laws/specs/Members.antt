@@ -7,7 +7,9 @@ use Rattle.terms.specs.declared.quote_terms.{QuoteEntry.QuoteEntry}
 use Rattle.squares.specs.Square.{joined}
 use Rattle.refusals.specs.Checks.{answered-cases}
 use Rattle.refusals.specs.Exactly.{clear}
-use Rattle.desk.specs.declared.{Desk.Desk, Entered.Entered, Quoted.Quoted}
+use Rattle.entries.specs.declared.{Entered.Entered}
+use Rattle.quotation.specs.declared.{Quoted.Quoted}
+use Rattle.desk.specs.declared.{Desk.Desk}
 use Rattle.desk.specs.Desk.{fresh_desk, known}
 use Rattle.desk.specs.Calls.{order_checks, order_refused, order_done, entered, quote_checks, quote_refused, quote_done, quoted}
 use Rattle.desk.specs.Sound.{SoundDesk}

@@ -30,7 +30,9 @@ use Rattle.session.specs.State.{part}
 use Rattle.session.specs.Sound.{legal_price}
 use Rattle.courses.specs.Answer.{answer_of}
 use Rattle.answers.specs.Auctions as auctions
-use Rattle.desk.specs.declared.{Desk.Desk, Entered.Entered, Quoted.Quoted}
+use Rattle.entries.specs.declared.{Entered.Entered}
+use Rattle.quotation.specs.declared.{Quoted.Quoted}
+use Rattle.desk.specs.declared.{Desk.Desk}
 use Rattle.desk.specs.Desk.{fresh_desk, known, row_in, with_totals, entering}
 use Rattle.desk.specs.Calls.{order_checks, order_refused, order_done, entered, quote_checks, quote_refused, quote_done, quoted}
 use Rattle.desk.specs.EntryCalls.{known-length}

@@ -8,12 +8,12 @@ use Rattle.squares.specs.Square.{added_to}
 use Rattle.refusals.specs.Checks.{Check, check, first_hit, answered_by, answered-number, answered-not-done}
 use Rattle.refusals.specs.Exactly.{earlier, NoneHit}
 use Rattle.session.specs.declared.{Session.Session}
-use Rattle.entries.specs.declared as entries
-use Rattle.quotation.specs.declared as quotes
+use Rattle.entries.specs.declared.{Entered.Entered}
+use Rattle.quotation.specs.declared.{Quoted.Quoted}
 use Rattle.entries.specs.Entry as plain
 use Rattle.quotation.specs.Quote as quotation
 use Rattle.answers.specs.Auctions as auctions
-use Rattle.desk.specs.declared.{Desk.Desk, Entered.Entered, Quoted.Quoted}
+use Rattle.desk.specs.declared.{Desk.Desk}
 use Rattle.desk.specs.Desk.{is_beyond, with_session}
 use Rattle.desk.specs.Calls.{started, order_checks, order_refused, order_done, entered, quote_checks, quote_refused, quote_done, quoted, deleted}
 use Rattle.desk_auction.specs.Auctions.{auctioned}
@@ -25,11 +25,11 @@ use Rattle.clearing_laws.specs.Runs.{acted, run}
 -- ---- K5d: 16
 order-answer : (d : Desk) (e : Entry) → (entered d e).answer ≡ first_hit (order_checks d e)
 unfolding entered
-order-answer d e = answered-number (order_checks d e) (order_refused d) (order_done d e) (λ (r : Entered). r.answer) (λ n. refl) refl
+order-answer d e = answered-number (order_checks d e) (order_refused d) (order_done d e) (λ (r : Entered Desk). r.answer) (λ n. refl) refl
 
 quote-answer : (d : Desk) (e : QuoteEntry) → (quoted d e).answer ≡ first_hit (quote_checks d e)
 unfolding quoted
-quote-answer d e = answered-number (quote_checks d e) (quote_refused d) (quote_done d e) (λ (r : Quoted). r.answer) (λ n. refl) refl
+quote-answer d e = answered-number (quote_checks d e) (quote_refused d) (quote_done d e) (λ (r : Quoted Desk). r.answer) (λ n. refl) refl
 
 -- K5d. Each refusal is given exactly when its rule holds and none before it does; the rows are the session's with 16 after 8 and before 9,
 pub order-exactly : (d : Desk) (e : Entry) → ExactlyWhen (entered d e).answer (order_checks d e)
@@ -47,33 +47,33 @@ sixteen-for-quote d e = (quote-exactly d e).refused 16 (omega arith)
 
 -- K5d. A refusal leaves the whole desk as it was, every other number is 0, and the lent list is as it was.
 pub record ChangesNothing (d : Desk) : Type 0 where
-  pub start-refused : (x : Start) → (started d x).answer ≢ 0 → (started d x).desk ≡ d
-  pub order-refused : (e : Entry) → (entered d e).answer ≢ 0 → ((entered d e).desk ≡ d) × ((entered d e).number ≡ 0)
-  pub delete-refused : (number member : ℕ) → (deleted d number member).answer ≢ 0 → (deleted d number member).desk ≡ d
-  pub quote-refused : (e : QuoteEntry) → (quoted d e).answer ≢ 0 → ((quoted d e).desk ≡ d) × ((quoted d e).bid ≡ 0) × ((quoted d e).ask ≡ 0)
+  pub start-refused : (x : Start) → (started d x).answer ≢ 0 → (started d x).session ≡ d
+  pub order-refused : (e : Entry) → (entered d e).answer ≢ 0 → ((entered d e).session ≡ d) × ((entered d e).number ≡ 0)
+  pub delete-refused : (number member : ℕ) → (deleted d number member).answer ≢ 0 → (deleted d number member).session ≡ d
+  pub quote-refused : (e : QuoteEntry) → (quoted d e).answer ≢ 0 → ((quoted d e).session ≡ d) × ((quoted d e).bid ≡ 0) × ((quoted d e).ask ≡ 0)
   pub auction-refused : (which : ℕ) (list : List ℕ) → (auctioned d which list).returned.answer ≢ 0
-      → ((auctioned d which list).returned.desk ≡ d) × ((auctioned d which list).list ≡ list)
+      → ((auctioned d which list).returned.session ≡ d) × ((auctioned d which list).list ≡ list)
 
 order_is : (d : Desk) (e : Entry) → (entered d e).answer ≢ 0 → entered d e ≡ order_refused d (entered d e).answer
 unfolding entered
-order_is d e = answered-not-done (order_checks d e) (order_refused d) (order_done d e) (λ (r : Entered). r.answer) (λ n. refl) refl
+order_is d e = answered-not-done (order_checks d e) (order_refused d) (order_done d e) (λ (r : Entered Desk). r.answer) (λ n. refl) refl
 
 quote-is : (d : Desk) (e : QuoteEntry) → (quoted d e).answer ≢ 0 → quoted d e ≡ quote_refused d (quoted d e).answer
 unfolding quoted
-quote-is d e = answered-not-done (quote_checks d e) (quote_refused d) (quote_done d e) (λ (r : Quoted). r.answer) (λ n. refl) refl
+quote-is d e = answered-not-done (quote_checks d e) (quote_refused d) (quote_done d e) (λ (r : Quoted Desk). r.answer) (λ n. refl) refl
 
 -- a refused auction lists no trade
 auction-is : (d : Desk) (which : ℕ) (list : List ℕ) → (auctioned d which list).returned.answer ≢ 0
-    → ((auctioned d which list).returned.desk ≡ d) × ((auctioned d which list).list ≡ list)
+    → ((auctioned d which list).returned.session ≡ d) × ((auctioned d which list).list ≡ list)
 unfolding auctioned added_to
 auction-is d which list h = rw ((changes-nothing d.session).auction-refused which list h) (refl, refl)
 
 pub desk-changes-nothing : (d : Desk) → ChangesNothing d
 desk-changes-nothing d = record {
   start-refused = λ x h. ap (with_session d) ((changes-nothing d.session).start-refused x h);
-  order-refused = λ e h. let i = order_is d e h in (ap (λ (r : Entered). r.desk) i, ap (λ (r : Entered). r.number) i);
+  order-refused = λ e h. let i = order_is d e h in (ap (λ (r : Entered Desk). r.session) i, ap (λ (r : Entered Desk). r.number) i);
   delete-refused = λ number member h. ap (with_session d) ((changes-nothing d.session).delete-refused number member h);
-  quote-refused = λ e h. let i = quote-is d e h in (ap (λ (r : Quoted). r.desk) i, ap (λ (r : Quoted). r.bid) i, ap (λ (r : Quoted). r.ask) i);
+  quote-refused = λ e h. let i = quote-is d e h in (ap (λ (r : Quoted Desk). r.session) i, ap (λ (r : Quoted Desk). r.bid) i, ap (λ (r : Quoted Desk). r.ask) i);
   auction-refused = auction-is d;
 }
 
@@ -97,14 +97,14 @@ first-without (c ∷ cs) h = go c.hit refl (eqb c.number 16) refl h (first-witho
     go false i false e h below = rw i (below h)
 
 order-plain : (d : Desk) (e : Entry) → (entered d e).answer ≢ 16
-    → ((entered d e).answer ≡ (plain.entered d.session e).answer) × ((entered d e).number ≡ (plain.entered d.session e).number) × ((entered d e).desk.session ≡ (plain.entered d.session e).session)
+    → ((entered d e).answer ≡ (plain.entered d.session e).answer) × ((entered d e).number ≡ (plain.entered d.session e).number) × ((entered d e).session.session ≡ (plain.entered d.session e).session)
 unfolding entered plain.entered
 order-plain d e h =
     subst (λ (n : ℕ). Same (answered_by (first_hit (order_checks d e)) (order_refused d) (order_done d e)) (answered_by n (plain.order_refused d.session) (plain.order_done d.session e)))
     (first-without (order_checks d e) (λ i. h (order-answer d e ∙ i))) (go (first_hit (order_checks d e)))
   where
-    Same : Entered → entries.Entered.Entered → Type 0
-    Same r q = (r.answer ≡ q.answer) × (r.number ≡ q.number) × (r.desk.session ≡ q.session)
+    Same : Entered Desk → Entered Session → Type 0
+    Same r q = (r.answer ≡ q.answer) × (r.number ≡ q.number) × (r.session.session ≡ q.session)
 
     go : (n : ℕ) → Same (answered_by n (order_refused d) (order_done d e)) (answered_by n (plain.order_refused d.session) (plain.order_done d.session e))
     go zero = (refl, refl, refl)
@@ -112,14 +112,14 @@ order-plain d e h =
 
 quote-plain : (d : Desk) (e : QuoteEntry) → (quoted d e).answer ≢ 16
     → ((quoted d e).answer ≡ (quotation.quoted d.session e).answer) × ((quoted d e).bid ≡ (quotation.quoted d.session e).bid) × ((quoted d e).ask ≡ (quotation.quoted d.session e).ask)
-    × ((quoted d e).desk.session ≡ (quotation.quoted d.session e).session)
+    × ((quoted d e).session.session ≡ (quotation.quoted d.session e).session)
 unfolding quoted quotation.quoted
 quote-plain d e h =
     subst (λ (n : ℕ). Same (answered_by (first_hit (quote_checks d e)) (quote_refused d) (quote_done d e)) (answered_by n (quotation.quote_refused d.session) (quotation.quote_done d.session e)))
     (first-without (quote_checks d e) (λ i. h (quote-answer d e ∙ i))) (go (first_hit (quote_checks d e)))
   where
-    Same : Quoted → quotes.Quoted.Quoted → Type 0
-    Same r q = (r.answer ≡ q.answer) × (r.bid ≡ q.bid) × (r.ask ≡ q.ask) × (r.desk.session ≡ q.session)
+    Same : Quoted Desk → Quoted Session → Type 0
+    Same r q = (r.answer ≡ q.answer) × (r.bid ≡ q.bid) × (r.ask ≡ q.ask) × (r.session.session ≡ q.session)
 
     go : (n : ℕ) → Same (answered_by n (quote_refused d) (quote_done d e)) (answered_by n (quotation.quote_refused d.session) (quotation.quote_done d.session e))
     go zero = (refl, refl, refl, refl)
@@ -128,15 +128,15 @@ quote-plain d e h =
 -- K5c. Where the answer is not 16, a call answers, writes and leaves in the session inside what the plain session's call does; a start, a deletion and
 -- an auction always.
 pub record AsPlain (d : Desk) : Type 0 where
-  pub start : (x : Start) → let r = plain.started d.session x in ((started d x).answer ≡ r.answer) × ((started d x).desk.session ≡ r.session)
+  pub start : (x : Start) → let r = plain.started d.session x in ((started d x).answer ≡ r.answer) × ((started d x).session.session ≡ r.session)
   pub order : (e : Entry) → (entered d e).answer ≢ 16 → let r = plain.entered d.session e in
-      ((entered d e).answer ≡ r.answer) × ((entered d e).number ≡ r.number) × ((entered d e).desk.session ≡ r.session)
+      ((entered d e).answer ≡ r.answer) × ((entered d e).number ≡ r.number) × ((entered d e).session.session ≡ r.session)
   pub delete : (number member : ℕ) → let r = plain.deleted d.session number member in
-      ((deleted d number member).answer ≡ r.answer) × ((deleted d number member).desk.session ≡ r.session)
+      ((deleted d number member).answer ≡ r.answer) × ((deleted d number member).session.session ≡ r.session)
   pub quote : (e : QuoteEntry) → (quoted d e).answer ≢ 16 → let r = quotation.quoted d.session e in
-      ((quoted d e).answer ≡ r.answer) × ((quoted d e).bid ≡ r.bid) × ((quoted d e).ask ≡ r.ask) × ((quoted d e).desk.session ≡ r.session)
+      ((quoted d e).answer ≡ r.answer) × ((quoted d e).bid ≡ r.bid) × ((quoted d e).ask ≡ r.ask) × ((quoted d e).session.session ≡ r.session)
   pub auction : (which : ℕ) (list : List ℕ) → let l = auctioned d which list in let r = auctions.auctioned d.session which list in
-      (l.returned.answer ≡ r.returned.answer) × (l.returned.result ≡ r.returned.result) × (l.returned.desk.session ≡ r.returned.session) × (l.list ≡ r.list)
+      (l.returned.answer ≡ r.returned.answer) × (l.returned.result ≡ r.returned.result) × (l.returned.session.session ≡ r.returned.session) × (l.list ≡ r.list)
 
 pub as_plain : (d : Desk) → AsPlain d
 unfolding auctioned

@@ -5,18 +5,19 @@ use Rattle.book.specs.Resting.{resting}
 use Rattle.trades.specs.declared.{Trade.Trade}
 use Rattle.trades.specs.Written.{trades_read}
 use Rattle.squares.specs.Square.{square_of}
+use Rattle.answers.specs.Auctions.{AuctionLeaves}
 use Rattle.desk.specs.declared.{Desk.Desk}
 use Rattle.desk.specs.Calls.{started, entered, quoted, deleted}
-use Rattle.desk_auction.specs.Auctions.{member_of, AuctionLeaves, auctioned}
+use Rattle.desk_auction.specs.Auctions.{member_of, auctioned}
 use Rattle.demands.specs.Sequences.{Act, Call}
 
 -- the desk after a call, and after a list of calls, one after the other; one that only looks leaves it
 abbrev pub acted : Desk → Act → Desk
-acted d (Act.start x) = (started d x).desk
-acted d (Act.order e) = (entered d e).desk
-acted d (Act.delete number member) = (deleted d number member).desk
-acted d (Act.quote e) = (quoted d e).desk
-acted d (Act.auction which list) = (auctioned d which list).returned.desk
+acted d (Act.start x) = (started d x).session
+acted d (Act.order e) = (entered d e).session
+acted d (Act.delete number member) = (deleted d number member).session
+acted d (Act.quote e) = (quoted d e).session
+acted d (Act.auction which list) = (auctioned d which list).returned.session
 
 abbrev pub after : Desk → Call → Desk
 after d (Call.act c) = acted d c
@@ -41,7 +42,7 @@ deal_of d t = record {
 }
 
 -- the trades that an auction of a desk wrote to its list, read back
-abbrev pub listed : AuctionLeaves → List Trade
+abbrev pub listed : AuctionLeaves Desk → List Trade
 listed l = trades_read l.returned.result.count l.list
 
 -- the trades of a call by their members, and all of a run: only auctions trade
@@ -75,7 +76,7 @@ abbrev pub cell_at : Desk → ℕ → ℕ → ℕ
 cell_at d i j = get_or (get_or (square_of d.totals) i []) j 0
 
 -- the quantity of an auction of outcome 1, and those of a run together
-abbrev pub quantity_of : AuctionLeaves → ℕ
+abbrev pub quantity_of : AuctionLeaves Desk → ℕ
 quantity_of l = counted (eqb l.returned.answer 0 && eqb l.returned.result.outcome 1) l.returned.result.quantity
 
 abbrev pub traded_by : Desk → Act → ℕ

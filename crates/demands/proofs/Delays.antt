@@ -29,7 +29,7 @@ module _ (s : Session) (which : ℕ) (list : List ℕ) where
   unfolding auctioned
   mark_set =
       answered-cases (auction_checks s which (length list)) (auction_refused s list) (auction_done s asked list)
-      (λ (l : AuctionLeaves). l.returned.result.outcome ≡ 4 → l.returned.session.delayed ≡ true) (λ n h e i. absurd (omega arith)) (λ e. sets (outcome_of s asked))
+      (λ (l : AuctionLeaves Session). l.returned.result.outcome ≡ 4 → l.returned.session.delayed ≡ true) (λ n h e i. absurd (omega arith)) (λ e. sets (outcome_of s asked))
     where
       sets : (o : Outcome) → outcome_number o ≡ 4 → (session_after s asked (part s asked) o).delayed ≡ true
       sets (Traded price quantity) h = absurd (omega arith)
@@ -40,7 +40,7 @@ module _ (s : Session) (which : ℕ) (list : List ℕ) where
   mark-spent : s.delayed ≡ true → (auctioned s which list).returned.result.outcome ≢ 4
   unfolding auctioned
   mark-spent marked =
-      answered-cases (auction_checks s which (length list)) (auction_refused s list) (auction_done s asked list) (λ (l : AuctionLeaves). l.returned.result.outcome ≢ 4)
+      answered-cases (auction_checks s which (length list)) (auction_refused s list) (auction_done s asked list) (λ (l : AuctionLeaves Session). l.returned.result.outcome ≢ 4)
       (λ n h e i. omega arith)
       (λ e h. let (free, (p, found, delaying)) = (decided s asked).delayed.0 h in spent asked s.delayed s.parameters.threshold.0 s.reference.0 p marked delaying)
     where

@@ -34,11 +34,11 @@ use Rattle.standings.specs.Queues.{QueueLeaves, ranked_checks, queue_refused, qu
 -- A2. Any two outcomes that a promise allows are equal.
 pub record OneAnswer : Type 0 where
   pub of-fresh : (r q : Session) → r ≡ fresh_session → q ≡ fresh_session → r ≡ q
-  pub of-start : (s : Session) (x : Start) (r q : Started) → r ≡ started s x → q ≡ started s x → r ≡ q
-  pub of-order : (s : Session) (e : Entry) (r q : Entered) → r ≡ entered s e → q ≡ entered s e → r ≡ q
-  pub of-delete : (s : Session) (number member : ℕ) (r q : Deleted) → r ≡ deleted s number member → q ≡ deleted s number member → r ≡ q
-  pub of-quote : (s : Session) (e : QuoteEntry) (r q : Quoted) → r ≡ quoted s e → q ≡ quoted s e → r ≡ q
-  pub of-auction : (s : Session) (which : ℕ) (list : List ℕ) (r q : AuctionLeaves) → r ≡ auctioned s which list → q ≡ auctioned s which list → r ≡ q
+  pub of-start : (s : Session) (x : Start) (r q : Started Session) → r ≡ started s x → q ≡ started s x → r ≡ q
+  pub of-order : (s : Session) (e : Entry) (r q : Entered Session) → r ≡ entered s e → q ≡ entered s e → r ≡ q
+  pub of-delete : (s : Session) (number member : ℕ) (r q : Deleted Session) → r ≡ deleted s number member → q ≡ deleted s number member → r ≡ q
+  pub of-quote : (s : Session) (e : QuoteEntry) (r q : Quoted Session) → r ≡ quoted s e → q ≡ quoted s e → r ≡ q
+  pub of-auction : (s : Session) (which : ℕ) (list : List ℕ) (r q : AuctionLeaves Session) → r ≡ auctioned s which list → q ≡ auctioned s which list → r ≡ q
   pub of-theoretical : (s : Session) (which : ℕ) (r q : Foreseen) → r ≡ theoretical s which → q ≡ theoretical s which → r ≡ q
   pub of-ranked : (s : Session) (side which : ℕ) (list : List ℕ) (r q : QueueLeaves) → r ≡ queued s side which list → q ≡ queued s side which list → r ≡ q
   pub of-filled-front : (buys sells : List ℕ) (side total : ℕ) (r q : FrontAnswer) → r ≡ filled_front buys sells side total → q ≡ filled_front buys sells side total → r ≡ q
@@ -67,23 +67,23 @@ exactly checks w answer e = rw e (record { done = none-hit checks w; refused = g
 -- each call's answer is the first hit of its checks
 pub start-answer : (s : Session) (x : Start) → (started s x).answer ≡ first_hit (start_checks s x)
 unfolding started
-start-answer s x = answered-number (start_checks s x) (start_refused s) (start_done s x) (λ (r : Started). r.answer) (λ n. refl) refl
+start-answer s x = answered-number (start_checks s x) (start_refused s) (start_done s x) (λ (r : Started Session). r.answer) (λ n. refl) refl
 
 pub order-answer : (s : Session) (e : Entry) → (entered s e).answer ≡ first_hit (order_checks s e)
 unfolding entered
-order-answer s e = answered-number (order_checks s e) (order_refused s) (order_done s e) (λ (r : Entered). r.answer) (λ n. refl) refl
+order-answer s e = answered-number (order_checks s e) (order_refused s) (order_done s e) (λ (r : Entered Session). r.answer) (λ n. refl) refl
 
 pub delete-answer : (s : Session) (number member : ℕ) → (deleted s number member).answer ≡ first_hit (delete_checks s number member)
 unfolding deleted
-delete-answer s number member = answered-number (delete_checks s number member) (delete_refused s) (delete_done s number member) (λ (r : Deleted). r.answer) (λ n. refl) refl
+delete-answer s number member = answered-number (delete_checks s number member) (delete_refused s) (delete_done s number member) (λ (r : Deleted Session). r.answer) (λ n. refl) refl
 
 pub quote-answer : (s : Session) (e : QuoteEntry) → (quoted s e).answer ≡ first_hit (quote_checks s e)
 unfolding quoted
-quote-answer s e = answered-number (quote_checks s e) (quote_refused s) (quote_done s e) (λ (r : Quoted). r.answer) (λ n. refl) refl
+quote-answer s e = answered-number (quote_checks s e) (quote_refused s) (quote_done s e) (λ (r : Quoted Session). r.answer) (λ n. refl) refl
 
 pub auction-answer : (s : Session) (which : ℕ) (list : List ℕ) → (auctioned s which list).returned.answer ≡ first_hit (auction_checks s which (length list))
 unfolding auctioned
-auction-answer s which list = answered-number (auction_checks s which (length list)) (auction_refused s list) (auction_done s (auction_from which) list) (λ (l : AuctionLeaves). l.returned.answer) (λ n. refl) refl
+auction-answer s which list = answered-number (auction_checks s which (length list)) (auction_refused s list) (auction_done s (auction_from which) list) (λ (l : AuctionLeaves Session). l.returned.answer) (λ n. refl) refl
 
 pub theoretical-answer : (s : Session) (which : ℕ) → (theoretical s which).answer ≡ first_hit (theoretical_checks s which)
 unfolding theoretical
@@ -230,23 +230,23 @@ pub record ChangesNothing (s : Session) : Type 0 where
 module _ (s : Session) where
   start_is : (x : Start) → (started s x).answer ≢ 0 → started s x ≡ start_refused s (started s x).answer
   unfolding started
-  start_is x = answered-not-done (start_checks s x) (start_refused s) (start_done s x) (λ (r : Started). r.answer) (λ n. refl) refl
+  start_is x = answered-not-done (start_checks s x) (start_refused s) (start_done s x) (λ (r : Started Session). r.answer) (λ n. refl) refl
 
   order_is : (e : Entry) → (entered s e).answer ≢ 0 → entered s e ≡ order_refused s (entered s e).answer
   unfolding entered
-  order_is e = answered-not-done (order_checks s e) (order_refused s) (order_done s e) (λ (r : Entered). r.answer) (λ n. refl) refl
+  order_is e = answered-not-done (order_checks s e) (order_refused s) (order_done s e) (λ (r : Entered Session). r.answer) (λ n. refl) refl
 
   delete-is : (number member : ℕ) → (deleted s number member).answer ≢ 0 → deleted s number member ≡ delete_refused s (deleted s number member).answer
   unfolding deleted
-  delete-is number member = answered-not-done (delete_checks s number member) (delete_refused s) (delete_done s number member) (λ (r : Deleted). r.answer) (λ n. refl) refl
+  delete-is number member = answered-not-done (delete_checks s number member) (delete_refused s) (delete_done s number member) (λ (r : Deleted Session). r.answer) (λ n. refl) refl
 
   quote-is : (e : QuoteEntry) → (quoted s e).answer ≢ 0 → quoted s e ≡ quote_refused s (quoted s e).answer
   unfolding quoted
-  quote-is e = answered-not-done (quote_checks s e) (quote_refused s) (quote_done s e) (λ (r : Quoted). r.answer) (λ n. refl) refl
+  quote-is e = answered-not-done (quote_checks s e) (quote_refused s) (quote_done s e) (λ (r : Quoted Session). r.answer) (λ n. refl) refl
 
   auction-is : (which : ℕ) (list : List ℕ) → (auctioned s which list).returned.answer ≢ 0 → auctioned s which list ≡ auction_refused s list (auctioned s which list).returned.answer
   unfolding auctioned
-  auction-is which list = answered-not-done (auction_checks s which (length list)) (auction_refused s list) (auction_done s (auction_from which) list) (λ (l : AuctionLeaves). l.returned.answer) (λ n. refl) refl
+  auction-is which list = answered-not-done (auction_checks s which (length list)) (auction_refused s list) (auction_done s (auction_from which) list) (λ (l : AuctionLeaves Session). l.returned.answer) (λ n. refl) refl
 
   theoretical-is : (which : ℕ) → (theoretical s which).answer ≢ 0 → theoretical s which ≡ theoretical_refused (theoretical s which).answer
   unfolding theoretical
@@ -258,10 +258,10 @@ module _ (s : Session) where
 
 pub changes-nothing : (s : Session) → ChangesNothing s
 changes-nothing s = record {
-  start-refused = λ x h. ap (λ (r : Started). r.session) (start_is s x h);
-  order-refused = λ e h. let i = order_is s e h in (ap (λ (r : Entered). r.session) i, ap (λ (r : Entered). r.number) i);
-  delete-refused = λ number member h. ap (λ (r : Deleted). r.session) (delete-is s number member h);
-  quote-refused = λ e h. let i = quote-is s e h in (ap (λ (r : Quoted). r.session) i, ap (λ (r : Quoted). r.bid) i, ap (λ (r : Quoted). r.ask) i);
+  start-refused = λ x h. ap (λ (r : Started Session). r.session) (start_is s x h);
+  order-refused = λ e h. let i = order_is s e h in (ap (λ (r : Entered Session). r.session) i, ap (λ (r : Entered Session). r.number) i);
+  delete-refused = λ number member h. ap (λ (r : Deleted Session). r.session) (delete-is s number member h);
+  quote-refused = λ e h. let i = quote-is s e h in (ap (λ (r : Quoted Session). r.session) i, ap (λ (r : Quoted Session). r.bid) i, ap (λ (r : Quoted Session). r.ask) i);
   auction-refused = auction-is s;
   theoretical-refused = λ which h. ap (λ (r : Foreseen). r.result) (theoretical-is s which h);
   ranked-refused = λ side which list h. let i = ranked-is s side which list h in (ap (λ (l : QueueLeaves). l.list) i, ap (λ (l : QueueLeaves). l.returned.count) i);

@@ -63,37 +63,37 @@ prices-back price (t ∷ ts) list =
     (ap suc as_many, λ p m. ⊎_elim (λ i. i) (each p) (Memᴰ.cases_cons m))
 
 -- the trades that a call leaves in the list
-abbrev pub listed : AuctionLeaves → List Trade
+abbrev pub listed : AuctionLeaves Session → List Trade
 listed l = trades_read l.returned.result.count l.list
 
 -- neither refused nor held back: answer 0, and outcome 1 or 2
-abbrev pub TookPlace : AuctionLeaves → Type 0
+abbrev pub TookPlace : AuctionLeaves Session → Type 0
 TookPlace l = (l.returned.answer ≡ 0) × ((l.returned.result.outcome ≡ 1) ⊎ (l.returned.result.outcome ≡ 2))
 
 -- C1. No trade list at any price moves more than the auction's quantity.
-abbrev pub NoListMovesMore : Session → Auction → AuctionLeaves → Type 0
+abbrev pub NoListMovesMore : Session → Auction → AuctionLeaves Session → Type 0
 NoListMovesMore s a l = (p : ℕ) (others : List Trade) → TradeList p (part s a) others → volume others ≤ l.returned.result.quantity
 
 -- C2. Bought equals sold: both sides' fills sum to the quantity, what the orders of each side trade in the list does, and so do its entries.
-pub record BoughtIsSold (s : Session) (a : Auction) (l : AuctionLeaves) : Type 0 where
+pub record BoughtIsSold (s : Session) (a : Auction) (l : AuctionLeaves Session) : Type 0 where
   pub filled : (side : Side) → amount (fills side l.returned.result.quantity (part s a)) ≡ l.returned.result.quantity
   pub given : (side : Side) → sum (λ o. counted (on_side side o) (traded side o.number (listed l))) (part s a) ≡ l.returned.result.quantity
   pub moved : volume (listed l) ≡ l.returned.result.quantity
 
 -- C3. If an order gets anything, every better ranked order of its side that takes part is filled.
-abbrev pub NobodyPassedOver : Session → Auction → AuctionLeaves → Type 0
+abbrev pub NobodyPassedOver : Session → Auction → AuctionLeaves Session → Type 0
 NobodyPassedOver s a l = (side : Side) (x y : Resting) → x ∈ part s a → y ∈ part s a → T (on_side side x) → T (on_side side y) → T (ahead side x y) → 0 < traded side y.number (listed l)
     → traded side x.number (listed l) ≡ x.left
 
 -- C4. Nothing left: among what is left of those taking part, the executable quantity at every price is 0; and so it is among those of the
 -- session afterwards.
-pub record NothingLeft (s : Session) (a : Auction) (l : AuctionLeaves) : Type 0 where
+pub record NothingLeft (s : Session) (a : Auction) (l : AuctionLeaves Session) : Type 0 where
   pub of-those : (q : ℕ) → executable (map (remaining (listed l)) (part s a)) q ≡ 0
   pub resting-after : (q : ℕ) → executable (part l.returned.session a) q ≡ 0
 
 -- C6. The list itself: as many quadruples as the count says, at most 511, each a trade of a buy and a sell taking part, within both limits at the
 -- price, at the price, no order beyond its quantity, in the paper's pairing order, summing to the quantity; further entries as before.
-pub record ListWritten (s : Session) (a : Auction) (list : List ℕ) (l : AuctionLeaves) : Type 0 where
+pub record ListWritten (s : Session) (a : Auction) (list : List ℕ) (l : AuctionLeaves Session) : Type 0 where
   pub as_many : length (listed l) ≡ l.returned.result.count
   pub at_most : l.returned.result.count ≤ max_trades
   pub within-limits : TradeList l.returned.result.price (part s a) (listed l)
@@ -107,7 +107,7 @@ pub record ListWritten (s : Session) (a : Auction) (list : List ℕ) (l : Auctio
 
 -- B8. Book after, place by place: of each order what it had less what the trades gave it, gone where that is 0 or its validity ends (`rest_of`); a
 -- free place stays as it was. Those that don't take part trade nothing and stay as they were.
-pub record BookAfter (s : Session) (a : Auction) (l : AuctionLeaves) : Type 0 where
+pub record BookAfter (s : Session) (a : Auction) (l : AuctionLeaves Session) : Type 0 where
   pub at_each : (p : ℕ) → p < places → AfterAt (rest_of a (listed l)) s.book l.returned.session.book p
   pub trade-nothing : (o : Resting) → o ∈ resting s.book → T (not (takes_part a o.validity)) → traded o.side o.number (listed l) ≡ 0
   pub others : (p : ℕ) → p < places → is_taken s.book.taken p ≡ true → T (not (takes_part a (order_at s.book p).validity))

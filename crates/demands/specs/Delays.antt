@@ -21,12 +21,12 @@ use Rattle.demands.specs.Outcomes.{others_keep}
 -- the mark, once set, stays, and holds off another delay
 mark-stays : (s : Session) (c : Act) → s.delayed ≡ true → (acted s c).delayed ≡ true
 unfolding started auctioned
-mark-stays s (Act.start x) e = answered-cases (start_checks s x) (start_refused s) (start_done s x) (λ (r : Started). r.session.delayed ≡ true) (λ n h i. e) (λ i. e)
+mark-stays s (Act.start x) e = answered-cases (start_checks s x) (start_refused s) (start_done s x) (λ (r : Started Session). r.session.delayed ≡ true) (λ n h i. e) (λ i. e)
 mark-stays s (Act.order o) e = ((others_keep s).order o).1 ∙ e
 mark-stays s (Act.delete number member) e = ((others_keep s).delete number member).1 ∙ e
 mark-stays s (Act.quote q) e = ((others_keep s).quote q).1 ∙ e
 mark-stays s (Act.auction which list) e =
-    answered-cases (auction_checks s which (length list)) (auction_refused s list) (auction_done s (auction_from which) list) (λ (l : AuctionLeaves). l.returned.session.delayed ≡ true)
+    answered-cases (auction_checks s which (length list)) (auction_refused s list) (auction_done s (auction_from which) list) (λ (l : AuctionLeaves Session). l.returned.session.delayed ≡ true)
     (λ n h i. e) (λ i. outcomes (auction_from which) (outcome_of s (auction_from which)))
   where
     outcomes : (a : Auction) (o : Outcome) → (session_after s a (part s a) o).delayed ≡ true

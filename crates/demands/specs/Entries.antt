@@ -52,7 +52,7 @@ pub record Entered (s : Session) (e : Entry) : Type 0 where
 
 entered-after : (s : Session) (e : Entry) → 0 ≡ first_hit (order_checks s e) → (entered s e).session ≡ entered_session s e
 unfolding entered
-entered-after s e h = ap (λ (r : Returned). r.session) (sym (answered-done (order_checks s e) (order_refused s) (order_done s e) h))
+entered-after s e h = ap (λ (r : Returned Session). r.session) (sym (answered-done (order_checks s e) (order_refused s) (order_done s e) h))
 
 pub accepted-entry : (s : Session) (e : Entry) → Sound s → (entered s e).answer ≡ 0 → Entered s e
 accepted-entry s e sound done =
@@ -87,7 +87,7 @@ pub record Deleted (s : Session) (number member : ℕ) : Type 0 where
 
 deleted-after : (s : Session) (number member : ℕ) → 0 ≡ first_hit (delete_checks s number member) → (deleted s number member).session ≡ deleted_session s number member
 unfolding deleted
-deleted-after s number member h = ap (λ (r : Removed). r.session) (sym (answered-done (delete_checks s number member) (delete_refused s) (delete_done s number member) h))
+deleted-after s number member h = ap (λ (r : Removed Session). r.session) (sym (answered-done (delete_checks s number member) (delete_refused s) (delete_done s number member) h))
 
 pub accepted-deletion : (s : Session) (number member : ℕ) → Sound s → (deleted s number member).answer ≡ 0 → Deleted s number member
 accepted-deletion s number member sound done =

@@ -14,13 +14,13 @@ use Rattle.demands.specs.Auctioned.{TookPlace, NoListMovesMore, BoughtIsSold, No
 
 -- C5, of either auction: an opening has outcome 3 exactly when no list, at any price or at any legal one, fills every unlimited order taking
 -- part; a closing has outcome 1 or 2.
-abbrev pub PreventedExactly : Session → Auction → AuctionLeaves → Type 0
+abbrev pub PreventedExactly : Session → Auction → AuctionLeaves Session → Type 0
 PreventedExactly s Opening l =
     ((l.returned.result.outcome ≡ 3) ↔ (Fillable (part s Opening) → ⊥)) × ((l.returned.result.outcome ≡ 3) ↔ (FillableAt (legal_price s) (part s Opening) → ⊥))
 PreventedExactly s Closing l = (l.returned.result.outcome ≡ 1) ⊎ (l.returned.result.outcome ≡ 2)
 
 -- C1 to C6 of what an auction leaves, in this order; C5 whatever its outcome, the others where it is not held back.
-pub record AllThatCouldTrade (s : Session) (a : Auction) (list : List ℕ) (l : AuctionLeaves) : Type 0 where
+pub record AllThatCouldTrade (s : Session) (a : Auction) (list : List ℕ) (l : AuctionLeaves Session) : Type 0 where
   pub moves-most : TookPlace l → NoListMovesMore s a l
   pub bought-is-sold : TookPlace l → BoughtIsSold s a l
   pub nobody-passed-over : TookPlace l → NobodyPassedOver s a l

@@ -90,7 +90,7 @@ pub record OutcomesInOrder (s : Session) (a : Auction) (r : AuctionAnswer) : Typ
   pub no-trades : r.outcome ≢ 1 → r.count ≡ 0
 
 -- B9, the changes: the mark, the reference price and the phase change only as told, and the list is written with trades only.
-pub record OutcomeChanges (s : Session) (a : Auction) (list : List ℕ) (l : AuctionLeaves) : Type 0 where
+pub record OutcomeChanges (s : Session) (a : Auction) (list : List ℕ) (l : AuctionLeaves Session) : Type 0 where
   -- the price becomes the reference price, and the phase goes on
   pub traded : l.returned.result.outcome ≡ 1 → (l.returned.session.reference.0 ≡ l.returned.result.price) × (l.returned.session.phase ≡ phase_after a)
   -- the phase goes on
@@ -166,12 +166,12 @@ unfolding started entered deleted quoted
 others_keep s = record {
   start = λ x.
       answered-cases (start_checks s x) (start_refused s) (start_done s x)
-      (λ (r : Started). r.answer ≡ 0 → (r.session.phase ≡ PreOpening) × (r.session.delayed ≡ s.delayed) × (r.session.parameters ≡ parameters_from x) × (r.session.reference.0 ≡ x.reference))
+      (λ (r : Started Session). r.answer ≡ 0 → (r.session.phase ≡ PreOpening) × (r.session.delayed ≡ s.delayed) × (r.session.parameters ≡ parameters_from x) × (r.session.reference.0 ≡ x.reference))
       (λ n h e z. absurd (h z)) (λ e z. (refl, refl, refl, refl));
   order = λ e.
-      answered-cases (order_checks s e) (order_refused s) (order_done s e) (λ (r : Entered). Standing s r.session) (λ n h i. (refl, refl, refl, refl)) (λ i. (refl, refl, refl, refl));
+      answered-cases (order_checks s e) (order_refused s) (order_done s e) (λ (r : Entered Session). Standing s r.session) (λ n h i. (refl, refl, refl, refl)) (λ i. (refl, refl, refl, refl));
   delete = λ number member.
-      answered-cases (delete_checks s number member) (delete_refused s) (delete_done s number member) (λ (r : Deleted). Standing s r.session) (λ n h i. (refl, refl, refl, refl)) (λ i. (refl, refl, refl, refl));
+      answered-cases (delete_checks s number member) (delete_refused s) (delete_done s number member) (λ (r : Deleted Session). Standing s r.session) (λ n h i. (refl, refl, refl, refl)) (λ i. (refl, refl, refl, refl));
   quote = λ e.
-      answered-cases (quote_checks s e) (quote_refused s) (quote_done s e) (λ (r : Quoted). Standing s r.session) (λ n h i. (refl, refl, refl, refl)) (λ i. (refl, refl, refl, refl));
+      answered-cases (quote_checks s e) (quote_refused s) (quote_done s e) (λ (r : Quoted Session). Standing s r.session) (λ n h i. (refl, refl, refl, refl)) (λ i. (refl, refl, refl, refl));
 }

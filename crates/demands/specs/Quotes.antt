@@ -172,10 +172,10 @@ module _ (s : Session) (sound : Sound s) (e : QuoteEntry) where
     entered-as-told h =
         let done = quoted-after h in
         record {
-          numbers = (ap (λ (r : Quoted). r.bid) done, ap (λ (r : Quoted). r.ask) done);
+          numbers = (ap (λ (r : Quoted Session). r.bid) done, ap (λ (r : Quoted Session). r.ask) done);
           bid-asked = record { numbered = refl; member = refl; side = refl; validity = refl; left = refl; limit = refl; marked = refl };
           ask-asked = record { numbered = refl; member = refl; side = refl; validity = refl; left = refl; limit = refl; marked = refl };
-          session-after = ap (λ (r : Quoted). r.session) done;
+          session-after = ap (λ (r : Quoted Session). r.session) done;
           rests = rests-after;
           bid-at = let (taken, raw) = beside-ask (bid_place s e) apart in (ok.bid-room, taken ∙ bid-taken, sym (ap order_from raw ∙ bid-back s sound e ok));
           ask-at = (

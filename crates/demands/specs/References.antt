@@ -47,12 +47,12 @@ module _ (p : Parameters) (s : Session) (with : StartedWith p s) where
   still-with : (c : Act) → StartedWith p (acted s c)
   unfolding started auctioned
   still-with (Act.start y) =
-      answered-cases (start_checks s y) (start_refused s) (start_done s y) (λ (r : Started). StartedWith p r.session) (λ n h i. with) (λ i. absurd (no-second-start p s with y i))
+      answered-cases (start_checks s y) (start_refused s) (start_done s y) (λ (r : Started Session). StartedWith p r.session) (λ n h i. with) (λ i. absurd (no-second-start p s with y i))
   still-with (Act.order e) = let k = (others_keep s).order e in (ap has_started k.0 ∙ with.0, k.2 ∙ with.1)
   still-with (Act.delete number member) = let k = (others_keep s).delete number member in (ap has_started k.0 ∙ with.0, k.2 ∙ with.1)
   still-with (Act.quote q) = let k = (others_keep s).quote q in (ap has_started k.0 ∙ with.0, k.2 ∙ with.1)
   still-with (Act.auction which list) =
-      answered-cases (auction_checks s which (length list)) (auction_refused s list) (auction_done s (auction_from which) list) (λ (l : AuctionLeaves). StartedWith p l.returned.session)
+      answered-cases (auction_checks s which (length list)) (auction_refused s list) (auction_done s (auction_from which) list) (λ (l : AuctionLeaves Session). StartedWith p l.returned.session)
       (λ n h i. with) (λ i. after-outcome (auction_from which) (outcome_of s (auction_from which)))
 
 run-with : (p : Parameters) (s : Session) (cs : List Call) → StartedWith p s → StartedWith p (run s cs)
@@ -99,7 +99,7 @@ order-by-the-start s delayed reference e = go (first_hit (order_checks s e))
     other : Session
     other = in_force s delayed reference
 
-    same : Entered → Entered
+    same : Entered Session → Entered Session
     same r = record { answer = r.answer; number = r.number; session = in_force r.session delayed reference }
 
     go : (n : ℕ) → answered_by n (order_refused other) (order_done other e) ≡ same (answered_by n (order_refused s) (order_done s e))
@@ -116,7 +116,7 @@ quote-by-the-start s delayed reference e = go (first_hit (quote_checks s e))
     other : Session
     other = in_force s delayed reference
 
-    same : Quoted → Quoted
+    same : Quoted Session → Quoted Session
     same r = record { answer = r.answer; bid = r.bid; ask = r.ask; session = in_force r.session delayed reference }
 
     go : (n : ℕ) → answered_by n (quote_refused other) (quote_done other e) ≡ same (answered_by n (quote_refused s) (quote_done s e))
@@ -148,10 +148,10 @@ auction-in-force s reference which list = go (first_hit (auction_checks s which 
     a : Auction
     a = auction_from which
 
-    same : AuctionLeaves → AuctionLeaves
+    same : AuctionLeaves Session → AuctionLeaves Session
     same l = auction_leaves (record { answer = l.returned.answer; result = l.returned.result; session = with_start l.returned.session reference }) l.list
 
-    leaves : Session → Outcome → AuctionLeaves
+    leaves : Session → Outcome → AuctionLeaves Session
     leaves t o = auction_leaves (record { answer = 0; result = answer_of o (part s a); session = session_after t a (part s a) o }) (trades_written (price_answered o) (trades o (part s a)) list)
 
     by-outcome : (o : Outcome) → leaves other o ≡ same (leaves s o)

@@ -143,12 +143,12 @@ above_more bound next h ns (above, r) = (
 
 given-started : (s : Session) (x : Start) → (started s x).session.given ≡ s.given
 unfolding started
-given-started s x = answered-cases (start_checks s x) (start_refused s) (start_done s x) (λ (r : Started). r.session.given ≡ s.given) (λ n h e. refl) (λ e. refl)
+given-started s x = answered-cases (start_checks s x) (start_refused s) (start_done s x) (λ (r : Started Session). r.session.given ≡ s.given) (λ n h e. refl) (λ e. refl)
 
 given-deleted : (s : Session) (number member : ℕ) → (deleted s number member).session.given ≡ s.given
 unfolding deleted
 given-deleted s number member =
-    answered-cases (delete_checks s number member) (delete_refused s) (delete_done s number member) (λ (r : Deleted). r.session.given ≡ s.given) (λ n h e. refl) (λ e. refl)
+    answered-cases (delete_checks s number member) (delete_refused s) (delete_done s number member) (λ (r : Deleted Session). r.session.given ≡ s.given) (λ n h e. refl) (λ e. refl)
 
 given-after : (s : Session) (a : Auction) (book : List Resting) (o : Outcome) → (session_after s a book o).given ≡ s.given
 given-after s a book (Traded price quantity) = refl
@@ -160,7 +160,7 @@ given-auctioned : (s : Session) (which : ℕ) (list : List ℕ) → (auctioned s
 unfolding auctioned
 given-auctioned s which list =
     let a = auction_from which in
-    answered-cases (auction_checks s which (length list)) (auction_refused s list) (auction_done s a list) (λ (l : AuctionLeaves). l.returned.session.given ≡ s.given)
+    answered-cases (auction_checks s which (length list)) (auction_refused s list) (auction_done s a list) (λ (l : AuctionLeaves Session). l.returned.session.given ≡ s.given)
     (λ n h e. refl) (λ e. given-after s a (part s a) (outcome_of s a))
 
 ordered-above : (s : Session) (e : Entry) (cs : List Call) → ((t : Session) → Above t.given (numbers_given t cs))

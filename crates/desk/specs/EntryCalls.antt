@@ -11,18 +11,19 @@ use Rattle.book.specs.Columns.{stored}
 use Rattle.refusals.specs.Checks.{answered-map}
 use Rattle.effects.specs.declared.{Change.Change}
 use Rattle.effects.specs.Effects.{order_change, order_effect, order-not-beyond}
+use Rattle.entries.specs.declared.{Entered.Entered}
 use Rattle.entries.specs.Entry as plain
 use Rattle.entries.specs.Changes.{changed}
 use Rattle.quotes.specs.Quotes.{quote_places}
 use Rattle.effects.specs.declared.quoting.{QuoteChange.QuoteChange}
 use Rattle.effects.specs.QuoteEffects.{quote_change, quote_effect, quote-not-beyond}
-use Rattle.quotation.specs.declared.{Quoted.Quoted as plain_quoted}
+use Rattle.quotation.specs.declared.{Quoted.Quoted}
 use Rattle.quotation.specs.Quote.{book_without}
 use Rattle.quotation.specs.QuoteCall.{requoted_in, old_in, old-places, fresh-is, requoted-is, by-places, placed}
 use Rattle.session.specs.declared.{Session.Session}
 use Rattle.squares.specs.Square.{square_members}
 use Rattle.squares.specs.Rows.{beyond-by-row}
-use Rattle.desk.specs.declared.{Desk.Desk, Entered.Entered, Quoted.Quoted}
+use Rattle.desk.specs.declared.{Desk.Desk}
 use Rattle.desk.specs.Desk.{known, row_in, is_beyond, count_with, entering}
 use Rattle.desk.specs.Calls.{order_checks, order_refused, entered, quote_refused, quote_done, quoted}
 use Rattle.desk.specs.Sound.{SoundDesk}
@@ -50,9 +51,9 @@ order_in d e =
     order_effect s.phase s.parameters (plain.control_reference s) (is_beyond d e.member) s.given s.book.taken e
 
 -- what the call returns, by the effect
-abbrev pub entered_by : Desk → Entry → Result Change ℕ → Entered
+abbrev pub entered_by : Desk → Entry → Result Change ℕ → Entered Desk
 entered_by d e (Err n) = order_refused d n
-entered_by d e (Ok c) = record { answer = 0; number = c.given; desk = entering d e.member (changed d.session c) (set d.rows c.place (row_in d e.member)) }
+entered_by d e (Ok c) = record { answer = 0; number = c.given; session = entering d e.member (changed d.session c) (set d.rows c.place (row_in d e.member)) }
 
 pub entered_by_lem : (d : Desk) (e : Entry) → entered_by d e (order_in d e) ≡ entered d e
 unfolding entered order_effect stored marked
@@ -70,13 +71,13 @@ quote_in d e =
     let s = d.session in
     quote_effect s.phase s.parameters (plain.control_reference s) (is_beyond d e.member) s.given s.book.taken (old_in s e.member) e
 
-abbrev pub quoted_by : Desk → QuoteEntry → Result QuoteChange ℕ → Quoted
+abbrev pub quoted_by : Desk → QuoteEntry → Result QuoteChange ℕ → Quoted Desk
 quoted_by d e (Err n) = quote_refused d n
 quoted_by d e (Ok c) = record {
   answer = 0;
   bid = c.bid.number;
   ask = c.ask.number;
-  desk = entering d e.member (requoted_in d.session c) (set (set d.rows c.fresh.bid (row_in d e.member)) c.fresh.ask (row_in d e.member));
+  session = entering d e.member (requoted_in d.session c) (set (set d.rows c.fresh.bid (row_in d e.member)) c.fresh.ask (row_in d e.member));
 }
 
 pub quoted-by : (d : Desk) → SoundDesk d → (e : QuoteEntry) → quoted_by d e (quote_in d e) ≡ quoted d e
@@ -88,7 +89,7 @@ quoted-by d sound e =
     done : is_short (book_without d.session e).taken ≡ false
         → quoted_by d e (Ok (quote_change d.session.given d.session.book.taken (quote_places e.member d.session.book) (quote_from e))) ≡ quote_done d e
     done h =
-        let same = ap (λ (r : plain_quoted). r.session) (requoted-is d.session e h) in
+        let same = ap (λ (r : Quoted Session). r.session) (requoted-is d.session e h) in
         rw (same, fresh-is d.session e h)
 
 -- an accepted one has a row of the square, and stands at places

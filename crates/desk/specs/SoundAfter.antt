@@ -18,15 +18,15 @@ use Rattle.refusals.specs.Exactly.{clear}
 use Rattle.refusals.specs.Rows.{order_rows, quote_rows}
 use Rattle.session.specs.declared.{Session.Session}
 use Rattle.session.specs.Sound.{legal_price, Sound, fresh-sound}
-use Rattle.entries.specs.declared.{Started.Started as PlainStarted, Entered.Entered as PlainEntered, Deleted.Deleted as PlainDeleted}
+use Rattle.entries.specs.declared.{Started.Started, Entered.Entered, Deleted.Deleted}
 use Rattle.entries.specs.Entry as plain
 use Rattle.entries.specs.SoundAfter.{started-sound, entered-sound, deleted-sound, delete-room, accepted}
-use Rattle.quotation.specs.declared.{Quoted.Quoted as PlainQuoted}
+use Rattle.quotation.specs.declared.{Quoted.Quoted}
 use Rattle.quotation.specs.Quote as quotation
 use Rattle.quotation.specs.QuoteSound.{quoted-sound, accepted-quote, with-bid}
 use Rattle.quotes.specs.Without.{without-sound}
 use Rattle.squares.specs.Square.{square_members, square_cells, total, Small, joined}
-use Rattle.desk.specs.declared.{Desk.Desk, Entered.Entered, Quoted.Quoted}
+use Rattle.desk.specs.declared.{Desk.Desk}
 use Rattle.desk.specs.Desk.{fresh_desk, known, row_in, is_beyond, entering, with_totals}
 use Rattle.desk.specs.Calls.{started, deleted, order_checks, order_refused, order_done, entered, quote_checks, quote_refused, quote_done, quoted}
 use Rattle.desk.specs.Sound.{SoundDesk, RowsKnown, traded_most}
@@ -73,12 +73,12 @@ with-totals-sound d sound s inner rows totals long within = record {
 }
 
 -- Start hands it on: nothing was traded before it.
-pub started-desk-sound : (d : Desk) (x : Start) → SoundDesk d → SoundDesk (started d x).desk
+pub started-desk-sound : (d : Desk) (x : Start) → SoundDesk d → SoundDesk (started d x).session
 unfolding plain.started
 started-desk-sound d x sound =
     let s = d.session in
     let (rows, within) = answered-cases (plain.start_checks s x) (plain.start_refused s) (plain.start_done s x)
-    (λ (r : PlainStarted). RowsKnown (known d) d.rows r.session.book × (total d.totals ≤ traded_most r.session.phase))
+    (λ (r : Started Session). RowsKnown (known d) d.rows r.session.book × (total d.totals ≤ traded_most r.session.phase))
     (λ n h e. (sound.rows-known, sound.within))
     (λ e. (sound.rows-known, omega (arith, sound.within, nothing_yet s.phase (clear (plain.start_checks s x) tt e 3)))) in
     with-totals-sound d sound (plain.started s x).session (started-sound s x sound.inner) rows d.totals sound.totals-long within
@@ -90,12 +90,12 @@ started-desk-sound d x sound =
     nothing_yet Closed h = absurd (true≢false h)
 
 -- Delete hands it on: an order leaves.
-pub deleted-desk-sound : (d : Desk) (number member : ℕ) → SoundDesk d → SoundDesk (deleted d number member).desk
+pub deleted-desk-sound : (d : Desk) (number member : ℕ) → SoundDesk d → SoundDesk (deleted d number member).session
 unfolding plain.deleted
 deleted-desk-sound d number member sound =
     let s = d.session in
     let (rows, within) = answered-cases (plain.delete_checks s number member) (plain.delete_refused s) (plain.delete_done s number member)
-    (λ (r : PlainDeleted). RowsKnown (known d) d.rows r.session.book × (total d.totals ≤ traded_most r.session.phase))
+    (λ (r : Deleted Session). RowsKnown (known d) d.rows r.session.book × (total d.totals ≤ traded_most r.session.phase))
     (λ n h e. (sound.rows-known, sound.within))
     (λ e. (rows-fewer (known d) d.rows (cleared s.book (place_of (is_of number member) s.book)) s.book (cleared-fewer s.book sound.inner.book-sound.sized (place_of (is_of number member) s.book) (delete-room s number member e)) sound.rows-known, sound.within)) in
     with-totals-sound d sound (plain.deleted s number member).session (deleted-sound s number member sound.inner) rows d.totals sound.totals-long within
@@ -137,17 +137,17 @@ module _ (d : Desk) (sound : SoundDesk d) (m : ℕ) (room-left : is_beyond d m �
   }
 
 -- Order hands it on: what its plain session does, and its place has its row.
-pub entered-desk-sound : (d : Desk) (e : Entry) → SoundDesk d → SoundDesk (entered d e).desk
+pub entered-desk-sound : (d : Desk) (e : Entry) → SoundDesk d → SoundDesk (entered d e).session
 unfolding entered plain.entered
 entered-desk-sound d e sound =
-    answered-cases (order_checks d e) (order_refused d) (order_done d e) (λ (r : Entered). SoundDesk r.desk) (λ n h i. sound) (λ h. done h (clear (order_checks d e) tt h 16))
+    answered-cases (order_checks d e) (order_refused d) (order_done d e) (λ (r : Entered Desk). SoundDesk r.session) (λ n h i. sound) (λ h. done h (clear (order_checks d e) tt h 16))
   where
-    done : 0 ≡ first_hit (order_checks d e) → is_beyond d e.member ≡ false → SoundDesk (order_done d e).desk
+    done : 0 ≡ first_hit (order_checks d e) → is_beyond d e.member ≡ false → SoundDesk (order_done d e).session
     done h room-left =
         let h' : 0 ≡ first_hit (plain.order_checks d.session e) =
         h ∙ ap (λ (t : Bool). first_hit (order_rows d.session.phase d.session.parameters (plain.control_reference d.session) t d.session.given (is_full d.session.book.taken) e)) room-left in
         let inner : Sound (plain.entered_session d.session e) =
-        subst (λ (r : PlainEntered). Sound r.session) (sym (answered-done (plain.order_checks d.session e) (plain.order_refused d.session) (plain.order_done d.session e) h')) (entered-sound d.session e sound.inner) in
+        subst (λ (r : Entered Session). Sound r.session) (sym (answered-done (plain.order_checks d.session e) (plain.order_refused d.session) (plain.order_done d.session e) h')) (entered-sound d.session e sound.inner) in
         let place = lowest_free d.session.book.taken in
         let row = row_in d e.member in
         let here : place < places = (accepted d.session e h').room in
@@ -159,17 +159,17 @@ entered-desk-sound d e sound =
         (rows_then d sound e.member room-left d.session.book sound.rows-known) place here (plain.order_entered d.session e) row members.here members.below)
 
 -- Quote hands it on: the old sides leave, and the places of the new ones have its row.
-pub quoted-desk-sound : (d : Desk) (e : QuoteEntry) → SoundDesk d → SoundDesk (quoted d e).desk
+pub quoted-desk-sound : (d : Desk) (e : QuoteEntry) → SoundDesk d → SoundDesk (quoted d e).session
 unfolding quoted quotation.quoted
 quoted-desk-sound d e sound =
-    answered-cases (quote_checks d e) (quote_refused d) (quote_done d e) (λ (r : Quoted). SoundDesk r.desk) (λ n h i. sound) (λ h. done h (clear (quote_checks d e) tt h 16))
+    answered-cases (quote_checks d e) (quote_refused d) (quote_done d e) (λ (r : Quoted Desk). SoundDesk r.session) (λ n h i. sound) (λ h. done h (clear (quote_checks d e) tt h 16))
   where
-    done : 0 ≡ first_hit (quote_checks d e) → is_beyond d e.member ≡ false → SoundDesk (quote_done d e).desk
+    done : 0 ≡ first_hit (quote_checks d e) → is_beyond d e.member ≡ false → SoundDesk (quote_done d e).session
     done h room-left =
         let h' : 0 ≡ first_hit (quotation.quote_checks d.session e) =
         h ∙ ap (λ (t : Bool). first_hit (quote_rows d.session.phase d.session.parameters (plain.control_reference d.session) t d.session.given (is_short (quotation.book_without d.session e).taken) e)) room-left in
         let inner : Sound (quotation.quoted_session d.session e) =
-        subst (λ (r : PlainQuoted). Sound r.session) (sym (answered-done (quotation.quote_checks d.session e) (quotation.quote_refused d.session) (quotation.quote_done d.session e) h')) (quoted-sound d.session e sound.inner) in
+        subst (λ (r : Quoted Session). Sound r.session) (sym (answered-done (quotation.quote_checks d.session e) (quotation.quote_refused d.session) (quotation.quote_done d.session e) h')) (quoted-sound d.session e sound.inner) in
         let ok = accepted-quote d.session e h' in
         let row = row_in d e.member in
         let bid = quotation.bid_place d.session e in

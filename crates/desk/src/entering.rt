@@ -5,10 +5,11 @@ ghost use Rattle.desk.specs.Desk.{count_with};
 ghost use Rattle.desk.specs.Calls.{entered as calls_entered, quoted as calls_quoted};
 ghost use Rattle.desk.specs.Sound.{SoundDesk};
 
-use crate::{Desk, Entered, Quoted};
+use crate::Desk;
 use book::put;
 use effects::{order_effect, quote_effect};
-use quotation::old_pair;
+use entries::Entered;
+use quotation::{Quoted, old_pair};
 use quotes::requote;
 use squares::{MEMBERS, row_of};
 use terms::{Entry, QuoteEntry};
@@ -26,7 +27,7 @@ fn count_with(count: usize, row: usize) -> usize
 
 // Order: refusals 1, 2, 4, 5, 6, 7, 8, 16, 9, 10. The change is written as in `entries`, in the desk itself: a session by value would be one
 // copy more.
-pub fn order(mut desk: Desk, e: Entry) -> Entered
+pub fn order(mut desk: Desk, e: Entry) -> Entered<Desk>
     requires { SoundDesk desk }
     ensures { result ≡ calls_entered desk e }
 {
@@ -45,7 +46,7 @@ pub fn order(mut desk: Desk, e: Entry) -> Entered
         Err(refusal) => Entered {
             answer: u8::from(refusal),
             number: 0,
-            desk,
+            session: desk,
         },
         Ok(c) => {
             desk.session.given = c.given;
@@ -56,14 +57,14 @@ pub fn order(mut desk: Desk, e: Entry) -> Entered
             Entered {
                 answer: 0,
                 number: c.given,
-                desk,
+                session: desk,
             }
         }
     }
 }
 
 // Quote: refusals 1, 13, 2, 4, 5, 6, 7, 8, 16, 9, 10.
-pub fn quote(mut desk: Desk, e: QuoteEntry) -> Quoted
+pub fn quote(mut desk: Desk, e: QuoteEntry) -> Quoted<Desk>
     requires { SoundDesk desk }
     ensures { result ≡ calls_quoted desk e }
 {
@@ -85,7 +86,7 @@ pub fn quote(mut desk: Desk, e: QuoteEntry) -> Quoted
             answer: u8::from(refusal),
             bid: 0,
             ask: 0,
-            desk,
+            session: desk,
         },
         Ok(c) => {
             desk.session.given = c.given;
@@ -98,7 +99,7 @@ pub fn quote(mut desk: Desk, e: QuoteEntry) -> Quoted
                 answer: 0,
                 bid: c.bid.number,
                 ask: c.ask.number,
-                desk,
+                session: desk,
             }
         }
     }

@@ -11,6 +11,7 @@ ghost use Rattle.desk.specs.Calls.{started, deleted as calls_deleted};
 ghost use Rattle.desk.specs.Sound.{SoundDesk};
 
 pub use entering::{order, quote};
+use entries::{Deleted, Started};
 use session::Session;
 use squares::{CELLS, MEMBERS, square_of};
 use terms::{Place, Start};
@@ -25,33 +26,6 @@ pub struct Desk {
     pub rows: [u8; Place::COUNT],
     // The square's cells, row after row.
     pub totals: [u64; CELLS],
-}
-
-#[derive(Clone, Copy)]
-pub struct Started {
-    pub answer: u8,
-    pub desk: Desk,
-}
-
-#[derive(Clone, Copy)]
-pub struct Entered {
-    pub answer: u8,
-    pub number: u32,
-    pub desk: Desk,
-}
-
-#[derive(Clone, Copy)]
-pub struct Quoted {
-    pub answer: u8,
-    pub bid: u32,
-    pub ask: u32,
-    pub desk: Desk,
-}
-
-#[derive(Clone, Copy)]
-pub struct Deleted {
-    pub answer: u8,
-    pub desk: Desk,
 }
 
 impl Desk {
@@ -73,32 +47,28 @@ impl Desk {
 }
 
 // Start: refusals 1, 3.
-pub fn start(mut desk: Desk, start: Start) -> Started
+pub fn start(mut desk: Desk, start: Start) -> Started<Desk>
     requires { SoundDesk desk }
     ensures { result ≡ started desk start }
 {
-    let session = desk.session;
-    let r = entries::start(session, start);
-    let later = r.session;
-    desk.session = later;
+    let r = entries::start(desk.session, start);
+    desk.session = r.session;
     Started {
         answer: r.answer,
-        desk,
+        session: desk,
     }
 }
 
 // Delete: refusals 1, 2, 11. A member whose orders are gone stays entered.
-pub fn delete(mut desk: Desk, number: u32, member: u16) -> Deleted
+pub fn delete(mut desk: Desk, number: u32, member: u16) -> Deleted<Desk>
     requires { SoundDesk desk }
     ensures { result ≡ calls_deleted desk number member }
 {
-    let session = desk.session;
-    let r = entries::delete(session, number, member);
-    let later = r.session;
-    desk.session = later;
+    let r = entries::delete(desk.session, number, member);
+    desk.session = r.session;
     Deleted {
         answer: r.answer,
-        desk,
+        session: desk,
     }
 }
 

@@ -30,6 +30,7 @@ use Rattle.courses.specs.declared.{Course.Course, Course.TheVariants.Refused, Co
 use Rattle.courses.specs.Answer.{answer_with}
 use Rattle.courses.specs.Course.{result_by, takes_place}
 use Rattle.answers.specs.Auctions as plain
+use Rattle.answers.specs.Auctions.{AuctionLeaves, auction_leaves}
 use Rattle.answers.proofs.AuctionCalls.{IsCourseNow, taken_trades, taken-fits, taken-volume, taken-ranks, taken-count}
 use Rattle.squares.specs.Square.{InBook, total, added_to}
 use Rattle.squares.specs.Naming.{named, place_column, renamed, renamed-written}
@@ -37,7 +38,7 @@ use Rattle.squares.specs.Pairs.{pairs-named, pairs_of, along-named, at-a-rank, n
 use Rattle.desk.specs.declared.{Desk.Desk}
 use Rattle.desk.specs.Desk.{row_in, with_totals}
 use Rattle.desk.specs.Sound.{SoundDesk, far-below}
-use Rattle.desk_auction.specs.Auctions.{member_of, row_of_order, trades_listed, auction_leaves, cleared_by, auctioned}
+use Rattle.desk_auction.specs.Auctions.{member_of, row_of_order, trades_listed, cleared_by, auctioned}
 
 -- the member of a number is that of the order that has it
 pub member_of_lem : (os : List Resting) → Distinct os → (o : Resting) → o ∈ os → member_of os o.number ≡ o.member
@@ -64,9 +65,9 @@ module _ (d : Desk) (sound : SoundDesk d) (which : ℕ) (list : List ℕ) where
   s = d.session
 
   -- the session's equation makes the desk's
-  pub cleared-leaves : (l : plain.AuctionLeaves) → l ≡ plain.auctioned s which list → (now : Desk) {after : Session} {totals : List ℕ} → now ≡ with_totals d after totals
+  pub cleared-leaves : (l : AuctionLeaves Session) → l ≡ plain.auctioned s which list → (now : Desk) {after : Session} {totals : List ℕ} → now ≡ with_totals d after totals
       → totals ≡ added_to (row_of_order d) (trades_listed l) d.totals
-      → auction_leaves (record { answer = l.returned.answer; result = l.returned.result; desk = with_totals now l.returned.session now.totals }) l.list ≡ auctioned d which list
+      → auction_leaves (record { answer = l.returned.answer; result = l.returned.result; session = with_totals now l.returned.session now.totals }) l.list ≡ auctioned d which list
   unfolding auctioned
   cleared-leaves l e now n t = rw (n, t) (ap (cleared_by d) e)
 

@@ -8,8 +8,10 @@ use Rattle.trades.specs.Written.{trades_read}
 use Rattle.squares.specs.Square.{added_to}
 use Rattle.desk.specs.declared.{Desk.Desk}
 use Rattle.desk.specs.Desk.{row_in, with_totals}
+use Rattle.session.specs.declared.{Session.Session}
+use Rattle.answers.specs.declared.{Auctioned.Auctioned}
 use Rattle.answers.specs.Auctions as plain
-use Rattle.desk_auction.specs.declared.{Auctioned.Auctioned}
+use Rattle.answers.specs.Auctions.{AuctionLeaves, auction_leaves}
 
 -- the member that the order of a number has
 abbrev pub member_of : List Resting → ℕ → ℕ
@@ -21,33 +23,25 @@ abbrev pub row_of_order : Desk → ℕ → ℕ
 row_of_order d number = row_in d (member_of (resting d.session.book) number)
 
 -- the trades that an auction wrote to its list, read back
-abbrev pub trades_listed : plain.AuctionLeaves → List Trade
+abbrev pub trades_listed : AuctionLeaves Session → List Trade
 trades_listed l = trades_read l.returned.result.count l.list
 
--- what the call returns, and the lent list as it leaves it
-pub record AuctionLeaves : Type 0 where
-  pub returned : Auctioned
-  pub list : List ℕ
-
-abbrev pub auction_leaves : Auctioned → List ℕ → AuctionLeaves
-auction_leaves returned list = record { returned = returned; list = list }
-
 -- the answer, the list and the session are the session's own; each trade listed is added to the cell of its orders' members
-abbrev pub cleared_by : Desk → plain.AuctionLeaves → AuctionLeaves
+abbrev pub cleared_by : Desk → AuctionLeaves Session → AuctionLeaves Desk
 cleared_by d l = record {
   returned = record {
     answer = l.returned.answer;
     result = l.returned.result;
-    desk = with_totals d l.returned.session (added_to (row_of_order d) (trades_listed l) d.totals);
+    session = with_totals d l.returned.session (added_to (row_of_order d) (trades_listed l) d.totals);
   };
   list = l.list;
 }
 
-unfoldable pub auctioned : Desk → ℕ → List ℕ → AuctionLeaves
+unfoldable pub auctioned : Desk → ℕ → List ℕ → AuctionLeaves Desk
 auctioned d which list = cleared_by d (plain.auctioned d.session which list)
 
 -- what a desk's auction leaves is what the session's leaves
-pub plain-leaves : (d : Desk) (which : ℕ) (list : List ℕ) (r : Auctioned) (left : List ℕ) → auction_leaves r left ≡ auctioned d which list
-    → plain.auction_leaves (record { answer = r.answer; result = r.result; session = r.desk.session }) left ≡ plain.auctioned d.session which list
+pub plain-leaves : (d : Desk) (which : ℕ) (list : List ℕ) (r : Auctioned Desk) (left : List ℕ) → auction_leaves r left ≡ auctioned d which list
+    → auction_leaves (record { answer = r.answer; result = r.result; session = r.session.session }) left ≡ plain.auctioned d.session which list
 unfolding auctioned
-plain-leaves d which list r left e = ap (λ (l : AuctionLeaves). plain.auction_leaves (record { answer = l.returned.answer; result = l.returned.result; session = l.returned.desk.session }) l.list) e
+plain-leaves d which list r left e = ap (λ (l : AuctionLeaves Desk). auction_leaves (record { answer = l.returned.answer; result = l.returned.result; session = l.returned.session.session }) l.list) e

@@ -43,7 +43,7 @@ goes_on Closed Opening h = absurd h
 goes_on Closed Closing h = absurd h
 
 -- what the session is known to be after an auction, and what the trades listed come to
-abbrev Leaves : Desk → plain.AuctionLeaves → Type 0
+abbrev Leaves : Desk → plain.AuctionLeaves Session → Type 0
 Leaves d l =
     RowsKnown (known d) d.rows l.returned.session.book
     × (total d.totals + volume (trades_listed l) ≤ traded_most l.returned.session.phase)
@@ -71,7 +71,7 @@ module _ (d : Desk) (sound : SoundDesk d) (a : Auction) (list : List ℕ) (allow
   outcome-leaves (Delayed price quantity) e = (sound.rows-known, omega (arith, sound.within))
 
 -- Auction hands it on.
-pub auctioned-desk-sound : (d : Desk) (which : ℕ) (list : List ℕ) → SoundDesk d → SoundDesk (auctioned d which list).returned.desk
+pub auctioned-desk-sound : (d : Desk) (which : ℕ) (list : List ℕ) → SoundDesk d → SoundDesk (auctioned d which list).returned.session
 unfolding auctioned plain.auctioned
 auctioned-desk-sound d which list sound =
     let s = d.session in

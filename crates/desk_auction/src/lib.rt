@@ -4,28 +4,22 @@
 
 ghost use Rattle.std.specs.Prelude.{◌≡◌};
 ghost use Rattle.desk.specs.Sound.{SoundDesk};
-ghost use Rattle.desk_auction.specs.Auctions.{auction_leaves, auctioned};
+ghost use Rattle.answers.specs.Auctions.{auction_leaves};
+ghost use Rattle.desk_auction.specs.Auctions.{auctioned};
 
+use answers::Auctioned;
 use courses::{
-    AuctionAnswer, Course, Standing, answer_of, planned, price_of, quantity_of, result_of,
-    standing_after,
+    Course, Standing, answer_of, planned, price_of, quantity_of, result_of, standing_after,
 };
 use desk::Desk;
 use squares::{clear_trades, place_column};
 use terms::Place;
 
-#[derive(Clone, Copy)]
-pub struct Auctioned {
-    pub answer: u8,
-    pub result: AuctionAnswer,
-    pub desk: Desk,
-}
-
 // Auction: refusals 1, 2, 4, 12. The trades are paired by places, so that their rows are at hand, and told by their orders' numbers once they are
 // added. The desk is changed in place as in `answers`: by value it would stand on the stack once more.
 // Its twin there has no cells and names the trades by a column of the book that it settles: one function for both, by a copy of that column and a
 // closure for the cells, would be no plainer.
-pub fn auction(mut desk: Desk, which: u8, list: &mut [u32]) -> Auctioned
+pub fn auction(mut desk: Desk, which: u8, list: &mut [u32]) -> Auctioned<Desk>
     requires { SoundDesk desk }
     ensures { auction_leaves result list.new ≡ auctioned desk which list.old }
 {
@@ -73,6 +67,6 @@ pub fn auction(mut desk: Desk, which: u8, list: &mut [u32]) -> Auctioned
     Auctioned {
         answer: answer_of(plan.course),
         result: result_of(plan.course, count),
-        desk,
+        session: desk,
     }
 }

@@ -46,7 +46,7 @@ fn started() -> Desk
     };
     let by_rows = asked.as_start();
     let fresh = Desk::fresh();
-    desk::start(fresh, by_rows).desk
+    desk::start(fresh, by_rows).session
 }
 
 fn size_of(byte: u8) -> u32
@@ -135,10 +135,10 @@ fn filled(orders: u32, which: u8) -> Desk
     let mut desk = started();
     let mut x: u32 = 1;
     for i in 0..orders {
-        desk = desk::order(desk, chosen(which, i, orders, x)).desk;
+        desk = desk::order(desk, chosen(which, i, orders, x)).session;
         x = next(x);
     }
-    desk::quote(desk, quote_of(10)).desk
+    desk::quote(desk, quote_of(10)).session
 }
 
 // The call more; an auction writes to the list. Called in two places it stays a function of its own, whose stack tools/stack.sh can watch.
@@ -151,7 +151,7 @@ fn one_more(desk: Desk, byte: u8, list: &mut [u32]) -> LastCall
             LastCall {
                 answer: r.answer,
                 result: r.result,
-                desk: r.desk,
+                desk: r.session,
             }
         }
         b'o' => {
@@ -159,7 +159,7 @@ fn one_more(desk: Desk, byte: u8, list: &mut [u32]) -> LastCall
             LastCall {
                 answer: r.answer,
                 result: no_answer(),
-                desk: r.desk,
+                desk: r.session,
             }
         }
         b'q' => {
@@ -167,7 +167,7 @@ fn one_more(desk: Desk, byte: u8, list: &mut [u32]) -> LastCall
             LastCall {
                 answer: r.answer,
                 result: no_answer(),
-                desk: r.desk,
+                desk: r.session,
             }
         }
         b'c' => {

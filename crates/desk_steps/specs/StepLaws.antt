@@ -7,6 +7,7 @@ use Rattle.records.specs.declared.{kinds.Record.Record}
 use Rattle.lines.specs.declared.{Line.Line}
 use Rattle.lines.specs.Line.{line_of, trade_lines}
 use Rattle.lines.specs.Lengths.{line-length}
+use Rattle.transcript.specs.declared.{Stepped.Stepped}
 use Rattle.transcript.specs.Transcript.{lent, step_lines}
 use Rattle.transcript.specs.Steps as plain
 use Rattle.transcript.specs.Steps.{record_room}
@@ -16,19 +17,18 @@ use Rattle.desk.specs.Sound.{SoundDesk}
 use Rattle.desk.specs.SoundAfter.{fresh-desk-sound, started-desk-sound, entered-desk-sound, deleted-desk-sound, quoted-desk-sound}
 use Rattle.desk_auction.specs.Auctions.{auctioned}
 use Rattle.desk_auction.specs.SoundAfter.{auctioned-desk-sound}
-use Rattle.desk_steps.specs.declared.{Stepped.Stepped}
 use Rattle.desk_steps.specs.Steps.{DeskStep, desk_step, desk_after, Reached, WroteDesk}
 
 -- a record without trades: its answer's line is all
-pub wrote-alone : (place : ℕ) (old new : List ℕ) (at : ℕ) (r : Stepped) (did done : DeskStep) → did ≡ done → did.told.trades ≡ []
-    → r.desk ≡ did.desk → Wrote old new at r.at (line_of place did.told.line) → WroteDesk place old new at r done
+pub wrote-alone : (place : ℕ) (old new : List ℕ) (at : ℕ) (r : Stepped Desk) (did done : DeskStep) → did ≡ done → did.told.trades ≡ []
+    → r.session ≡ did.desk → Wrote old new at r.at (line_of place did.told.line) → WroteDesk place old new at r done
 wrote-alone place old new at r did done e none next w = (
   next ∙ ap (λ (x : DeskStep). x.desk) e,
   (plain.wrote-alone place old new at (record { session = did.told.session; at = r.at }) did.told done.told (ap (λ (x : DeskStep). x.told) e) none refl w).1,
 )
 
 -- one with trades: the line, and theirs behind it
-pub wrote-both : (place : ℕ) (old between new : List ℕ) (at p : ℕ) (r : Stepped) (did done : DeskStep) → at ≤ length old → did ≡ done → r.desk ≡ did.desk
+pub wrote-both : (place : ℕ) (old between new : List ℕ) (at p : ℕ) (r : Stepped Desk) (did done : DeskStep) → at ≤ length old → did ≡ done → r.session ≡ did.desk
     → Wrote old between at p (line_of place did.told.line) → Wrote between new p r.at (trade_lines did.told.trades) → WroteDesk place old new at r done
 wrote-both place old between new at p r did done room e next line lines = (
   next ∙ ap (λ (x : DeskStep). x.desk) e,

@@ -6,32 +6,34 @@ use Rattle.trades.specs.declared.{Trade.Trade}
 use Rattle.records.specs.declared.{kinds.Record.Record}
 use Rattle.lines.specs.declared.{words.Word.Word, Line.Line}
 use Rattle.transcript.specs.Transcript.{Step, lent, start_step, order_step, delete_step, quote_step, auction_step, trades_answered, step_lines, last_lines}
-use Rattle.desk.specs.declared.{Desk.Desk, Started.Started, Entered.Entered, Quoted.Quoted, Deleted.Deleted}
+use Rattle.entries.specs.declared.{Started.Started, Entered.Entered, Deleted.Deleted}
+use Rattle.quotation.specs.declared.{Quoted.Quoted}
+use Rattle.answers.specs.declared.{Auctioned.Auctioned}
+use Rattle.desk.specs.declared.{Desk.Desk}
 use Rattle.desk.specs.Desk.{fresh_desk}
 use Rattle.desk.specs.Calls.{started, entered, deleted, quoted}
-use Rattle.desk_auction.specs.declared.{Auctioned.Auctioned}
 use Rattle.desk_auction.specs.Auctions.{auctioned}
-use Rattle.desk_steps.specs.declared.{Stepped.Stepped}
+use Rattle.transcript.specs.declared.{Stepped.Stepped}
 
 -- the desk after a record, and what is told of it: the session inside, what its line says, and its trades
 pub record DeskStep : Type 0 where
   pub desk : Desk
   pub told : Step
 
-abbrev pub start_told : Started → DeskStep
-start_told r = record { desk = r.desk; told = start_step (record { answer = r.answer; session = r.desk.session }) }
+abbrev pub start_told : Started Desk → DeskStep
+start_told r = record { desk = r.session; told = start_step (record { answer = r.answer; session = r.session.session }) }
 
-abbrev pub order_told : Entered → DeskStep
-order_told r = record { desk = r.desk; told = order_step (record { answer = r.answer; number = r.number; session = r.desk.session }) }
+abbrev pub order_told : Entered Desk → DeskStep
+order_told r = record { desk = r.session; told = order_step (record { answer = r.answer; number = r.number; session = r.session.session }) }
 
-abbrev pub delete_told : Deleted → DeskStep
-delete_told r = record { desk = r.desk; told = delete_step (record { answer = r.answer; session = r.desk.session }) }
+abbrev pub delete_told : Deleted Desk → DeskStep
+delete_told r = record { desk = r.session; told = delete_step (record { answer = r.answer; session = r.session.session }) }
 
-abbrev pub quote_told : Quoted → DeskStep
-quote_told r = record { desk = r.desk; told = quote_step (record { answer = r.answer; bid = r.bid; ask = r.ask; session = r.desk.session }) }
+abbrev pub quote_told : Quoted Desk → DeskStep
+quote_told r = record { desk = r.session; told = quote_step (record { answer = r.answer; bid = r.bid; ask = r.ask; session = r.session.session }) }
 
-abbrev pub auction_told : Auctioned → List Trade → DeskStep
-auction_told r trades = record { desk = r.desk; told = auction_step (record { answer = r.answer; result = r.result; session = r.desk.session }) trades }
+abbrev pub auction_told : Auctioned Desk → List Trade → DeskStep
+auction_told r trades = record { desk = r.session; told = auction_step (record { answer = r.answer; result = r.result; session = r.session.session }) trades }
 
 abbrev pub desk_step : Desk → Record → DeskStep
 desk_step d (Record.Start p) = start_told (started d (start_with p))
@@ -63,5 +65,5 @@ abbrev pub two_numbers : Word → ℕ → ℕ → ℕ → Line
 two_numbers word answer first second = record { word = word; answer = answer; first = first; second = second; third = 0; fourth = 0 }
 
 -- the desk after a step, and the lines of the record at its place from 1 written into the buffer
-abbrev pub WroteDesk : ℕ → List ℕ → List ℕ → ℕ → Stepped → DeskStep → Type 0
-WroteDesk place old new at r done = (r.desk ≡ done.desk) × Wrote old new at r.at (step_lines place done.told)
+abbrev pub WroteDesk : ℕ → List ℕ → List ℕ → ℕ → Stepped Desk → DeskStep → Type 0
+WroteDesk place old new at r done = (r.session ≡ done.desk) × Wrote old new at r.at (step_lines place done.told)

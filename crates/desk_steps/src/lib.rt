@@ -15,14 +15,7 @@ use desk::Desk;
 use lines::{Line, Word, line_of, trade_lines};
 use records::{Deletion, Record};
 use terms::{Entry, QuoteEntry, Start};
-use transcript::auction_line;
-
-// The desk after a record, and the place behind its lines.
-#[derive(Clone, Copy)]
-pub struct Stepped {
-    pub desk: Desk,
-    pub at: usize,
-}
+use transcript::{Stepped, auction_line};
 
 // A record's line, with two numbers behind its answer; its word says how many of them are told.
 fn put_answer(
@@ -49,54 +42,50 @@ fn put_answer(
 }
 
 // By its table; a start of kind 1 means one row (02 K6).
-fn started(desk: Desk, start: Start, place: u64, out: &mut [u8], at: usize) -> Stepped
+fn started(desk: Desk, start: Start, place: u64, out: &mut [u8], at: usize) -> Stepped<Desk>
     requires { SoundDesk desk × (at + line_room ≤ length out.old) }
     ensures { WroteDesk place out.old out.new at result (desk_step desk (Record.Bands start)) }
 {
     let r = desk::start(desk, start);
     let end = put_answer(out, at, place, Word::Start, r.answer, 0, 0);
-    let later = r.desk;
     Stepped {
-        desk: later,
+        session: r.session,
         at: end,
     }
 }
 
-fn entered(desk: Desk, entry: Entry, place: u64, out: &mut [u8], at: usize) -> Stepped
+fn entered(desk: Desk, entry: Entry, place: u64, out: &mut [u8], at: usize) -> Stepped<Desk>
     requires { SoundDesk desk × (at + line_room ≤ length out.old) }
     ensures { WroteDesk place out.old out.new at result (desk_step desk (Record.Order entry)) }
 {
     let r = desk::order(desk, entry);
     let end = put_answer(out, at, place, Word::Order, r.answer, r.number, 0);
-    let later = r.desk;
     Stepped {
-        desk: later,
+        session: r.session,
         at: end,
     }
 }
 
-fn deleted(desk: Desk, deletion: Deletion, place: u64, out: &mut [u8], at: usize) -> Stepped
+fn deleted(desk: Desk, deletion: Deletion, place: u64, out: &mut [u8], at: usize) -> Stepped<Desk>
     requires { SoundDesk desk × (at + line_room ≤ length out.old) }
     ensures { WroteDesk place out.old out.new at result (desk_step desk (Record.Delete deletion)) }
 {
     let r = desk::delete(desk, deletion.number, deletion.member);
     let end = put_answer(out, at, place, Word::Delete, r.answer, 0, 0);
-    let later = r.desk;
     Stepped {
-        desk: later,
+        session: r.session,
         at: end,
     }
 }
 
-fn quoted(desk: Desk, entry: QuoteEntry, place: u64, out: &mut [u8], at: usize) -> Stepped
+fn quoted(desk: Desk, entry: QuoteEntry, place: u64, out: &mut [u8], at: usize) -> Stepped<Desk>
     requires { SoundDesk desk × (at + line_room ≤ length out.old) }
     ensures { WroteDesk place out.old out.new at result (desk_step desk (Record.Quote entry)) }
 {
     let r = desk::quote(desk, entry);
     let end = put_answer(out, at, place, Word::Quote, r.answer, r.bid, r.ask);
-    let later = r.desk;
     Stepped {
-        desk: later,
+        session: r.session,
         at: end,
     }
 }
@@ -109,7 +98,7 @@ fn auctioned(
     list: &mut [u32],
     out: &mut [u8],
     at: usize,
-) -> Stepped
+) -> Stepped<Desk>
     requires { SoundDesk desk × (length list.old ≡ trade_list_length) × (at + record_room ≤ length out.old) }
     ensures { WroteDesk place out.old out.new at result (desk_step desk (Record.Auction which)) }
 {
@@ -118,9 +107,8 @@ fn auctioned(
     let line = auction_line(r.answer, result);
     let behind = line_of(out, at, place, line);
     let end = trade_lines(out, behind, list, result.count as usize);
-    let later = r.desk;
     Stepped {
-        desk: later,
+        session: r.session,
         at: end,
     }
 }
@@ -132,7 +120,7 @@ pub fn carried_out(
     list: &mut [u32],
     out: &mut [u8],
     at: usize,
-) -> Stepped
+) -> Stepped<Desk>
     requires { SoundDesk desk × (length list.old ≡ trade_list_length) × (at + record_room ≤ length out.old) }
     ensures { WroteDesk place out.old out.new at result (desk_step desk asked) }
 {

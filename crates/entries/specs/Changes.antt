@@ -37,11 +37,11 @@ abbrev pub delete_in : Session → ℕ → ℕ → Result Change ℕ
 delete_in s number member = delete_effect s.phase s.given s.book.taken (place_in s.book.taken s.book.number s.book.member number member 0 places) number member
 
 -- what the calls return, by the effect
-abbrev pub entered_by : Session → Result Change ℕ → Entered
+abbrev pub entered_by : Session → Result Change ℕ → Entered Session
 entered_by s (Err n) = record { answer = n; number = 0; session = s }
 entered_by s (Ok c) = record { answer = 0; number = c.given; session = changed s c }
 
-abbrev pub deleted_by : Session → Result Change ℕ → Deleted
+abbrev pub deleted_by : Session → Result Change ℕ → Deleted Session
 deleted_by s (Err n) = record { answer = n; session = s }
 deleted_by s (Ok c) = record { answer = 0; session = changed s c }
 

@@ -19,13 +19,13 @@ use Rattle.session.specs.State.{begun, with_book}
 abbrev pub start_checks : Session → Start → List Check
 start_checks s x = start_rows s.phase x
 
-abbrev pub start_refused : Session → ℕ → Started
+abbrev pub start_refused : Session → ℕ → Started Session
 start_refused s n = record { answer = n; session = s }
 
-abbrev pub start_done : Session → Start → Started
+abbrev pub start_done : Session → Start → Started Session
 start_done s x = record { answer = 0; session = begun s (parameters_from x) }
 
-unfoldable pub started : Session → Start → Started
+unfoldable pub started : Session → Start → Started Session
 started s x = answered (start_checks s x) (start_refused s) (start_done s x)
 
 -- the reference price that controls 6 and 8 use: the start record's, for the whole session (02 K4; 004 clause 10, paragraph 3)
@@ -43,13 +43,13 @@ order_entered s e = resting_as (s.given + 1) false (order_from e)
 abbrev pub entered_session : Session → Entry → Session
 entered_session s e = with_book s (s.given + 1) (stored s.book (lowest_free s.book.taken) (order_entered s e))
 
-abbrev pub order_refused : Session → ℕ → Entered
+abbrev pub order_refused : Session → ℕ → Entered Session
 order_refused s n = record { answer = n; number = 0; session = s }
 
-abbrev pub order_done : Session → Entry → Entered
+abbrev pub order_done : Session → Entry → Entered Session
 order_done s e = record { answer = 0; number = s.given + 1; session = entered_session s e }
 
-unfoldable pub entered : Session → Entry → Entered
+unfoldable pub entered : Session → Entry → Entered Session
 entered s e = answered (order_checks s e) (order_refused s) (order_done s e)
 
 -- Delete: 1, 2, 11.
@@ -60,11 +60,11 @@ delete_checks s number member = delete_rows s.phase number member (not (any (is_
 abbrev pub deleted_session : Session → ℕ → ℕ → Session
 deleted_session s number member = with_book s s.given (cleared s.book (place_of (is_of number member) s.book))
 
-abbrev pub delete_refused : Session → ℕ → Deleted
+abbrev pub delete_refused : Session → ℕ → Deleted Session
 delete_refused s n = record { answer = n; session = s }
 
-abbrev pub delete_done : Session → ℕ → ℕ → Deleted
+abbrev pub delete_done : Session → ℕ → ℕ → Deleted Session
 delete_done s number member = record { answer = 0; session = deleted_session s number member }
 
-unfoldable pub deleted : Session → ℕ → ℕ → Deleted
+unfoldable pub deleted : Session → ℕ → ℕ → Deleted Session
 deleted s number member = answered (delete_checks s number member) (delete_refused s) (delete_done s number member)

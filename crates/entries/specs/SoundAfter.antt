@@ -30,7 +30,7 @@ use Rattle.session.specs.Sound.{legal_price, Sound, begun-sound, with-book-sound
 pub started-sound : (s : Session) (x : Start) → Sound s → Sound (started s x).session
 unfolding started
 started-sound s x sound =
-    answered-cases (start_checks s x) (start_refused s) (start_done s x) (λ (r : Started). Sound r.session) (λ n h e. sound)
+    answered-cases (start_checks s x) (start_refused s) (start_done s x) (λ (r : Started Session). Sound r.session) (λ n h e. sound)
     (λ e. begun-sound s sound (clear (start_checks s x) tt e 3) (parameters_from x) (test-holds (is_start x) (clear (start_checks s x) tt e 1)))
 
 -- an order of this number and member rests, so that its place is found
@@ -83,7 +83,7 @@ entered-order-sound s e ok =
 -- Order hands it on.
 pub entered-sound : (s : Session) (e : Entry) → Sound s → Sound (entered s e).session
 unfolding entered
-entered-sound s e sound = answered-cases (order_checks s e) (order_refused s) (order_done s e) (λ (r : Entered). Sound r.session) (λ n h i. sound) done
+entered-sound s e sound = answered-cases (order_checks s e) (order_refused s) (order_done s e) (λ (r : Entered Session). Sound r.session) (λ n h i. sound) done
   where
     done : 0 ≡ first_hit (order_checks s e) → Sound (order_done s e).session
     done h =
@@ -95,6 +95,6 @@ entered-sound s e sound = answered-cases (order_checks s e) (order_refused s) (o
 pub deleted-sound : (s : Session) (number member : ℕ) → Sound s → Sound (deleted s number member).session
 unfolding deleted
 deleted-sound s number member sound =
-    answered-cases (delete_checks s number member) (delete_refused s) (delete_done s number member) (λ (r : Deleted). Sound r.session) (λ n h i. sound)
+    answered-cases (delete_checks s number member) (delete_refused s) (delete_done s number member) (λ (r : Deleted Session). Sound r.session) (λ n h i. sound)
     (λ e. with-book-sound s sound (test-holds (has_started s.phase) (clear (delete_checks s number member) tt e 2)) s.given _ sound.numbers-left
     (cleared-sound (legal_price s) s.given s.book sound.book-sound (place_of (is_of number member) s.book) (delete-room s number member e)))

@@ -15,27 +15,28 @@ use refusals::Refusal;
 use session::Session;
 use terms::{Entry, Parameters, Start};
 
+// What a call returns: `S` is `Session`, or a type around it (`desk`).
 #[derive(Clone, Copy)]
-pub struct Started {
+pub struct Started<S> {
     pub answer: u8,
-    pub session: Session,
+    pub session: S,
 }
 
 #[derive(Clone, Copy)]
-pub struct Entered {
+pub struct Entered<S> {
     pub answer: u8,
     pub number: u32,
-    pub session: Session,
+    pub session: S,
 }
 
 #[derive(Clone, Copy)]
-pub struct Deleted {
+pub struct Deleted<S> {
     pub answer: u8,
-    pub session: Session,
+    pub session: S,
 }
 
 // Start: refusals 1, 3.
-pub fn start(session: Session, start: Start) -> Started
+pub fn start(session: Session, start: Start) -> Started<Session>
     requires { Sound session }
     ensures { result ≡ started session start }
 {
@@ -59,7 +60,7 @@ pub fn start(session: Session, start: Start) -> Started
 }
 
 // Order: refusals 1, 2, 4, 5, 6, 7, 8, 9, 10. An accepted order takes the next number and the lowest free place.
-pub fn order(session: Session, e: Entry) -> Entered
+pub fn order(session: Session, e: Entry) -> Entered<Session>
     requires { Sound session }
     ensures { result ≡ entry_entered session e }
 {
@@ -88,7 +89,7 @@ pub fn order(session: Session, e: Entry) -> Entered
 }
 
 // Delete: refusals 1, 2, 11. The place is free at once.
-pub fn delete(session: Session, number: u32, member: u16) -> Deleted
+pub fn delete(session: Session, number: u32, member: u16) -> Deleted<Session>
     requires { Sound session }
     ensures { result ≡ entry_deleted session number member }
 {

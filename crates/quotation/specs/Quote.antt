@@ -45,11 +45,11 @@ book_with_quote s e = stored (book_with_bid s e) (ask_place s e) (ask_entered s 
 abbrev pub quoted_session : Session → QuoteEntry → Session
 quoted_session s e = with_book s (s.given + 2) (book_with_quote s e)
 
-abbrev pub quote_refused : Session → ℕ → Quoted
+abbrev pub quote_refused : Session → ℕ → Quoted Session
 quote_refused s n = record { answer = n; bid = 0; ask = 0; session = s }
 
-abbrev pub quote_done : Session → QuoteEntry → Quoted
+abbrev pub quote_done : Session → QuoteEntry → Quoted Session
 quote_done s e = record { answer = 0; bid = s.given + 1; ask = s.given + 2; session = quoted_session s e }
 
-unfoldable pub quoted : Session → QuoteEntry → Quoted
+unfoldable pub quoted : Session → QuoteEntry → Quoted Session
 quoted s e = answered (quote_checks s e) (quote_refused s) (quote_done s e)

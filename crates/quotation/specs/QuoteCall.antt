@@ -53,10 +53,10 @@ abbrev pub quote_in : Session → QuoteEntry → Result QuoteChange ℕ
 quote_in s e = quote_effect s.phase s.parameters (control_reference s) false s.given s.book.taken (old_in s e.member) e
 
 -- what the call returns, by the effect
-abbrev pub quoted_with : Session → QuoteChange → Quoted
+abbrev pub quoted_with : Session → QuoteChange → Quoted Session
 quoted_with s c = record { answer = 0; bid = c.bid.number; ask = c.ask.number; session = requoted_in s c }
 
-abbrev pub quoted_by : Session → Result QuoteChange ℕ → Quoted
+abbrev pub quoted_by : Session → Result QuoteChange ℕ → Quoted Session
 quoted_by s (Err n) = quote_refused s n
 quoted_by s (Ok c) = quoted_with s c
 

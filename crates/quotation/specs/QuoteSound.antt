@@ -116,7 +116,7 @@ module _ (s : Session) (sound : Sound s) (e : QuoteEntry) (ok : AcceptedQuote s 
 -- Quote hands it on.
 pub quoted-sound : (s : Session) (e : QuoteEntry) → Sound s → Sound (quoted s e).session
 unfolding quoted
-quoted-sound s e sound = answered-cases (quote_checks s e) (quote_refused s) (quote_done s e) (λ (r : Quoted). Sound r.session) (λ n h i. sound) done
+quoted-sound s e sound = answered-cases (quote_checks s e) (quote_refused s) (quote_done s e) (λ (r : Quoted Session). Sound r.session) (λ n h i. sound) done
   where
     done : 0 ≡ first_hit (quote_checks s e) → Sound (quote_done s e).session
     done h =

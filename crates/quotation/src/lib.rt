@@ -13,12 +13,13 @@ use quotes::{Pair, quote_place, requote};
 use session::Session;
 use terms::{QuoteEntry, Side};
 
+// What the call returns, `S` as in `entries`.
 #[derive(Clone, Copy)]
-pub struct Quoted {
+pub struct Quoted<S> {
     pub answer: u8,
     pub bid: u32,
     pub ask: u32,
-    pub session: Session,
+    pub session: S,
 }
 
 // Where the sides of a member's quote stand.
@@ -40,7 +41,7 @@ pub fn requoted(mut session: Session, c: QuoteChange) -> Session
     session
 }
 
-fn quote_done(session: Session, c: QuoteChange) -> Quoted
+fn quote_done(session: Session, c: QuoteChange) -> Quoted<Session>
     requires { (c.fresh.bid < places) × (c.fresh.ask < places) }
     ensures { result ≡ quoted_with session c }
 {
@@ -54,7 +55,7 @@ fn quote_done(session: Session, c: QuoteChange) -> Quoted
 
 // Quote: refusals 1, 13, 2, 4, 5, 6, 7, 8, 9, 10. The member's old quote is gone first; the bid takes the first of two new numbers and places, the
 // ask the second; both are entered, or nothing changes (02 K2).
-pub fn quote(session: Session, e: QuoteEntry) -> Quoted
+pub fn quote(session: Session, e: QuoteEntry) -> Quoted<Session>
     requires { Sound session }
     ensures { result ≡ quote_quoted session e }
 {

@@ -18,7 +18,7 @@ use Rattle.transcript.specs.Transcript.{Step, step, auction_step, lent, trades_a
 use Rattle.transcript.specs.Steps.{trades-few}
 
 -- the step of an auction whose trades are read from the list
-abbrev step_read : AuctionLeaves → Step
+abbrev step_read : AuctionLeaves Session → Step
 step_read l = auction_step l.returned (trades_read l.returned.result.count l.list)
 
 -- an auction that is done, read so; the answer doesn't depend on what the list held
@@ -42,15 +42,15 @@ module _ (s : Session) (which : ℕ) (list other : List ℕ) where
   unfolding auctioned
   as_long h k = rw (h, k) (same (auction_checks s which trade_list_length))
 
-pub auction-step : (s : Session) (which : ℕ) (list left : List ℕ) (r : Auctioned) → length list ≡ trade_list_length → auction_leaves r left ≡ auctioned s which list
+pub auction-step : (s : Session) (which : ℕ) (list left : List ℕ) (r : Auctioned Session) → length list ≡ trade_list_length → auction_leaves r left ≡ auctioned s which list
     → auction_step r (trades_read r.result.count left) ≡ step s (Record.Auction which)
 auction-step s which list left r h e =
     let long = length-replicate {A = ℕ} trade_list_length 0 in
     ap step_read e ∙ as_long s which list lent (h ∙ sym long) long
 
-pub auction-count : (s : Session) (which : ℕ) (list left : List ℕ) (r : Auctioned) → auction_leaves r left ≡ auctioned s which list → r.result.count ≤ max_trades
+pub auction-count : (s : Session) (which : ℕ) (list left : List ℕ) (r : Auctioned Session) → auction_leaves r left ≡ auctioned s which list → r.result.count ≤ max_trades
 unfolding auctioned
 auction-count s which list left r e =
-    subst (λ (l : AuctionLeaves). l.returned.result.count ≤ max_trades) (sym e)
-    (answered-cases (auction_checks s which (length list)) (auction_refused s list) (auction_done s (auction_from which) list) (λ (l : AuctionLeaves). l.returned.result.count ≤ max_trades)
+    subst (λ (l : AuctionLeaves Session). l.returned.result.count ≤ max_trades) (sym e)
+    (answered-cases (auction_checks s which (length list)) (auction_refused s list) (auction_done s (auction_from which) list) (λ (l : AuctionLeaves Session). l.returned.result.count ≤ max_trades)
     (λ n h i. omega arith) (λ i. trades-few s (auction_from which)))

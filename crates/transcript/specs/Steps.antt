@@ -43,16 +43,16 @@ use Rattle.entries.specs.Changes.{changed, order_in, delete_in, entered_by, dele
 use Rattle.lines.specs.declared.{words.Word.Word, Line.Line}
 
 -- the session after a step, and the lines of the record at its place from 1 written into the buffer
-abbrev pub WroteStep : ℕ → List ℕ → List ℕ → ℕ → Stepped → Step → Type 0
+abbrev pub WroteStep : ℕ → List ℕ → List ℕ → ℕ → Stepped Session → Step → Type 0
 WroteStep place old new at r done = (r.session ≡ done.session) × Wrote old new at r.at (step_lines place done)
 
 -- .. of a record without trades: its answer's line is all
-pub wrote-alone : (place : ℕ) (old new : List ℕ) (at : ℕ) (r : Stepped) (did done : Step) → did ≡ done → did.trades ≡ []
+pub wrote-alone : (place : ℕ) (old new : List ℕ) (at : ℕ) (r : Stepped Session) (did done : Step) → did ≡ done → did.trades ≡ []
     → r.session ≡ did.session → Wrote old new at r.at (line_of place did.line) → WroteStep place old new at r done
 wrote-alone place old new at r did done e none next w = rw (← e) (next, rw (none, append-nil (line_of place did.line)) w)
 
 -- .. of one with trades: the line, and theirs behind it
-pub wrote-both : (place : ℕ) (old between new : List ℕ) (at p : ℕ) (r : Stepped) (did done : Step) → at ≤ length old → did ≡ done → r.session ≡ did.session
+pub wrote-both : (place : ℕ) (old between new : List ℕ) (at p : ℕ) (r : Stepped Session) (did done : Step) → at ≤ length old → did ≡ done → r.session ≡ did.session
     → Wrote old between at p (line_of place did.line) → Wrote between new p r.at (trade_lines did.trades) → WroteStep place old new at r done
 wrote-both place old between new at p r did done room e next line lines =
     rw (← e) (next, put_then old between new at p r.at (line_of place did.line) (trade_lines did.trades) room line lines)
@@ -166,6 +166,6 @@ bands-told bytes place next e w =
     (b, w.1 ∙ sym (bands-record bytes place b))
 
 -- a record's lines are those of the record that it is
-pub wrote_as : (s : Session) (place at : ℕ) (old out : List ℕ) (done : Stepped) {r q : Record} → r ≡ q
+pub wrote_as : (s : Session) (place at : ℕ) (old out : List ℕ) (done : Stepped Session) {r q : Record} → r ≡ q
     → WroteStep place old out at done (step s q) → WroteStep place old out at done (step s r)
 wrote_as s place at old out done e w = rw e w

@@ -29,16 +29,16 @@ pub record Step : Type 0 where
 abbrev pub lent : List ℕ
 lent = replicate trade_list_length 0
 
-abbrev pub start_step : Started → Step
+abbrev pub start_step : Started Session → Step
 start_step r = record { session = r.session; line = numbered_line Word.Start r.answer 0; trades = [] }
 
-abbrev pub order_step : Entered → Step
+abbrev pub order_step : Entered Session → Step
 order_step r = record { session = r.session; line = numbered_line Word.Order r.answer r.number; trades = [] }
 
-abbrev pub delete_step : Deleted → Step
+abbrev pub delete_step : Deleted Session → Step
 delete_step r = record { session = r.session; line = numbered_line Word.Delete r.answer 0; trades = [] }
 
-abbrev pub quote_step : Quoted → Step
+abbrev pub quote_step : Quoted Session → Step
 quote_step r = record { session = r.session; line = record { word = Word.Quote; answer = r.answer; first = r.bid; second = r.ask; third = 0; fourth = 0 }; trades = [] }
 
 -- the trades of an auction that was not refused
@@ -50,7 +50,7 @@ abbrev pub auction_line : ℕ → AuctionAnswer → Line
 auction_line answer result =
     record { word = Word.Auction; answer = answer; first = result.outcome; second = result.price; third = result.quantity; fourth = result.count }
 
-abbrev pub auction_step : Auctioned → List Trade → Step
+abbrev pub auction_step : Auctioned Session → List Trade → Step
 auction_step r trades = record { session = r.session; line = auction_line r.answer r.result; trades = trades }
 
 abbrev pub step : Session → Record → Step

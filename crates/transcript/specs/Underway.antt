@@ -53,7 +53,7 @@ module _ (ended : Bool) (bytes out₀ : List ℕ) (s₀ : Session) (answered₀ 
     seen e = ap (next_told bytes place ended) room ∙ sym e
 
     -- a record whose lines are written
-    pub underway-next : {r : Record} {next : ℕ} → Next.Record r next ≡ next_told bytes place ended (length out - at) → {done : Stepped} {out' : List ℕ}
+    pub underway-next : {r : Record} {next : ℕ} → Next.Record r next ≡ next_told bytes place ended (length out - at) → {done : Stepped Session} {out' : List ℕ}
         → WroteStep (answered + 1) out out' at done (step s r) → length out' ≡ length out → Underway ended bytes out₀ s₀ answered₀ done.session (answered + 1) next done.at out'
     underway-next {r} {next} e {done} {out'} (same, (end, new)) long = record {
       sound = rw same (step-sound s r u.sound);

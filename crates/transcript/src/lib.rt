@@ -14,8 +14,8 @@ use terms::OneStep;
 
 // A session after a record whose lines are written, and the place behind them.
 #[derive(Clone, Copy)]
-pub struct Stepped {
-    pub session: Session,
+pub struct Stepped<S> {
+    pub session: S,
     pub at: usize,
 }
 

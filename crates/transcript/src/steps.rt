@@ -97,7 +97,7 @@ pub(crate) fn doing_of(
 }
 
 // By its table, whatever the record's kind.
-fn table_written(session: Session, p: Start, place: u64, out: &mut [u8], at: usize) -> Stepped
+fn table_written(session: Session, p: Start, place: u64, out: &mut [u8], at: usize) -> Stepped<Session>
     requires { Sound session × (at + line_room ≤ length out.old) }
     ensures { WroteStep place out.old out.new at result (step session (Record.Bands p)) }
 {
@@ -108,9 +108,8 @@ fn table_written(session: Session, p: Start, place: u64, out: &mut [u8], at: usi
         place,
         Line::numbered(Word::Start, r.answer as u64, 0),
     );
-    let next = r.session;
     Stepped {
-        session: next,
+        session: r.session,
         at: end,
     }
 }
@@ -122,7 +121,7 @@ pub(crate) fn start_written(
     place: u64,
     out: &mut [u8],
     at: usize,
-) -> Stepped
+) -> Stepped<Session>
     requires { Sound session × (at + line_room ≤ length out.old) }
     ensures { WroteStep place out.old out.new at result (step session (Record.Start p)) }
 {
@@ -137,7 +136,7 @@ pub(crate) fn bands_written(
     place: u64,
     out: &mut [u8],
     at: usize,
-) -> Stepped
+) -> Stepped<Session>
     requires { Sound session × (at + line_room ≤ length out.old) × BandsAt bytes.now from }
     ensures { WroteStep place out.old out.new at result (step session (record_in bytes.now from)) }
 {
@@ -165,7 +164,7 @@ pub(crate) fn auction_written(
     place: u64,
     out: &mut [u8],
     at: usize,
-) -> Stepped
+) -> Stepped<Session>
     requires { Sound session × (length list.old ≡ trade_list_length) × (at + record_room ≤ length out.old) }
     ensures { WroteStep place out.old out.new at result (step session (Record.Auction which)) }
 {
@@ -174,9 +173,8 @@ pub(crate) fn auction_written(
     let line = auction_line(r.answer, result);
     let behind = line_of(out, at, place, line);
     let end = trade_lines(out, behind, list, result.count as usize);
-    let next = r.session;
     Stepped {
-        session: next,
+        session: r.session,
         at: end,
     }
 }

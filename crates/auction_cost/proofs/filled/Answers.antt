@@ -1,4 +1,5 @@
 use Rattle.std.proofs.Common.{sym, subst}
+use Rattle.session.specs.declared.Session.{Session}
 use Rattle.session.specs.Sound.{Sound}
 use Rattle.entries.specs.SoundAfter.{entered-sound}
 use Rattle.entries.specs.declared.Entered.{Entered}
@@ -6,4 +7,4 @@ use Rattle.auction_cost.proofs.filled.Goals as goal
 
 pub loop-i-preserved : goal.loop-i-preserved
 loop-i-preserved c =
-    (subst (λ (r : Entered). Sound r.session) (sym c.order.ensures) (entered-sound _ _ c.loop-i.invariant.0), c.next-x.ensures)
+    (subst (λ (r : Entered Session). Sound r.session) (sym c.order.ensures) (entered-sound _ _ c.loop-i.invariant.0), c.next-x.ensures)

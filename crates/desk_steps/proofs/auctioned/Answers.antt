@@ -1,7 +1,6 @@
 -- The call, its line, and the lines of the trades that it left in the list.
 use mathlib.Core.Path.{refl}
 use native.Mathlib.Omega.{arith}
-use borrow.Author.Rules.{rules}
 use Rattle.trades.specs.Written.{trades_read}
 use Rattle.lines.specs.Lengths.{line-length}
 use Rattle.desk_steps.specs.Steps.{auction_told}

@@ -1,8 +1,9 @@
 use Rattle.std.proofs.Common.{sym, subst}
+use Rattle.session.specs.declared.Session.{Session}
 use Rattle.session.specs.Sound.{Sound}
 use Rattle.answers.specs.Auctions.{AuctionLeaves}
 use Rattle.answers.proofs.SoundAfter.{auctioned-sound}
 use Rattle.sums.proofs.held.Goals as goal
 
 pub returns : goal.returns
-returns g c = subst (λ (r : AuctionLeaves). Sound r.returned.session) (sym c.auction-r.ensures) (auctioned-sound _ _ _ c.requires)
+returns g c = subst (λ (r : AuctionLeaves Session). Sound r.returned.session) (sym c.auction-r.ensures) (auctioned-sound _ _ _ c.requires)

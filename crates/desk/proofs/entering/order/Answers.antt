@@ -1,4 +1,4 @@
-use mathlib.Core.Path.{◌≡◌, sym, ap, ◌∙◌}
+use mathlib.Core.Path.{sym, ap, ◌∙◌}
 use Prim.Native.Nat.{◌<◌}
 use lib.ListN.{set}
 use native.Mathlib.Omega.{arith}
@@ -10,7 +10,7 @@ use Rattle.session.specs.State.{with_book}
 use Rattle.squares.specs.Square.{square_members}
 use Rattle.desk.specs.declared.{Desk.Desk}
 use Rattle.desk.specs.Desk.{is_beyond}
-use Rattle.desk.specs.EntryCalls.{beyond-is, entering-as, order_in, entered_by, entered_by_lem, order_row}
+use Rattle.desk.specs.EntryCalls.{beyond-is, entering-as, entered_by, entered_by_lem, order_row}
 use Rattle.desk.proofs.entering.order.Goals as goal
 use Rattle.desk.proofs.entering.order.Goals.{In-Ok}
 
@@ -55,6 +55,6 @@ returns-in-Ok c = let a = c.args in
     let session = ap (λ (b : Book). with_book a.desk.session c.in-Ok.c.given b) c.write.ensures in
     let rows = c.put.ensures in
     let desk = entering-as a.desk a.e.member (set a.desk.rows c.in-Ok.c.place) session c.row_of-row.ensures rows c.count_with.ensures in
-    ap (λ (d : Desk). record { answer = 0; number = c.in-Ok.c.given; desk = d }) desk
+    ap (λ (d : Desk). record { answer = 0; number = c.in-Ok.c.given; session = d }) desk
     ∙ ap (entered_by a.desk a.e) (rw (c.row_of-row.ensures, beyond-is a.desk c.requires a.e.member) at c.in-Ok.ensures)
     ∙ entered_by_lem a.desk a.e

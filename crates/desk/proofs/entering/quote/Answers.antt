@@ -1,4 +1,4 @@
-use mathlib.Core.Path.{◌≡◌, sym, ap, ◌∙◌}
+use mathlib.Core.Path.{sym, ap, ◌∙◌}
 use Prim.Native.Nat.{ℕ, ◌<◌}
 use lib.ListN.{set}
 use native.Mathlib.Omega.{arith}
@@ -7,7 +7,7 @@ use Rattle.squares.specs.Square.{square_members}
 use Rattle.book.specs.declared.Book.{Book}
 use Rattle.session.specs.State.{with_book}
 use Rattle.desk.specs.declared.{Desk.Desk}
-use Rattle.desk.specs.EntryCalls.{beyond-is, entering-as, quote_in, quoted_by, quoted-by, quote-row, quote-placed}
+use Rattle.desk.specs.EntryCalls.{beyond-is, entering-as, quoted_by, quoted-by, quote-row, quote-placed}
 use Rattle.desk.proofs.entering.quote.Goals as goal
 use Rattle.desk.proofs.entering.quote.Goals.{In-Ok}
 
@@ -56,6 +56,6 @@ returns-in-Ok c = let a = c.args in
     let session = ap (λ (b : Book). with_book a.desk.session c.in-Ok.c.given b) c.requote.ensures in
     let rows = rw c.put.ensures at c.put-in-Ok.ensures in
     let desk = entering-as a.desk a.e.member (λ (row : ℕ). set (set a.desk.rows c.in-Ok.c.fresh.bid row) c.in-Ok.c.fresh.ask row) session c.row_of-row.ensures rows c.count_with.ensures in
-    ap (λ (d : Desk). record { answer = 0; bid = c.in-Ok.c.bid.number; ask = c.in-Ok.c.ask.number; desk = d }) desk
+    ap (λ (d : Desk). record { answer = 0; bid = c.in-Ok.c.bid.number; ask = c.in-Ok.c.ask.number; session = d }) desk
     ∙ ap (quoted_by a.desk a.e) (rw (c.old_pair-old.ensures, c.row_of-row.ensures, beyond-is a.desk c.requires a.e.member) at c.in-Ok.ensures)
     ∙ quoted-by a.desk c.requires a.e

@@ -5,6 +5,7 @@ use lib.ListN.{length}
 use Rattle.terms.specs.Bounds.{places}
 use Rattle.book.specs.Hints.{sound-numbered}
 use Rattle.book.specs.declared.Book.{Book}
+use Rattle.session.specs.declared.{Session.Session}
 use Rattle.session.specs.Sound.{legal_price}
 use Rattle.session.specs.State.{with_book}
 use Rattle.lines.specs.Line.{numbered_line, done_line, quote_line}
@@ -32,7 +33,7 @@ onward c = let a = c.args in
     (f.0, f.1, f.2)
 
 -- a record whose lines are written
-next : (c : In-Record) → {done : Stepped} {out : List ℕ} → let l = c.loop-record in let a = c.args in
+next : (c : In-Record) → {done : Stepped Session} {out : List ℕ} → let l = c.loop-record in let a = c.args in
     WroteStep (l.count + 1) l.out out l.at done (step l.present c.in-Record.record)
     → length out ≡ length l.out
     → Underway a.ended a.bytes.now a.out.now a.session a.answered done.session (l.count + 1) c.in-Record.behind done.at out
