@@ -57,14 +57,14 @@ impl Values {
 }
 
 // What a column holds: a number, and the empty value 0 where a place is free.
-pub trait Held: Copy {
+pub trait Stored: Copy {
     ghost empty: { Self };
 
     fn empty() -> Self
         ensures { result ≡ empty };
 }
 
-impl Held for u8 {
+impl Stored for u8 {
     ghost empty = { 0 };
 
     fn empty() -> u8 {
@@ -72,7 +72,7 @@ impl Held for u8 {
     }
 }
 
-impl Held for u16 {
+impl Stored for u16 {
     ghost empty = { 0 };
 
     fn empty() -> u16 {
@@ -80,7 +80,7 @@ impl Held for u16 {
     }
 }
 
-impl Held for u32 {
+impl Stored for u32 {
     ghost empty = { 0 };
 
     fn empty() -> u32 {
@@ -159,7 +159,7 @@ fn any_is<T: Copy + PartialEq>(xs: &[T], x: T) -> bool
 }
 
 // Whether one of sixteen places from one on holds this.
-pub fn holds<T: Held + PartialEq>(column: &[T; Place::COUNT], from: usize, x: T) -> bool
+pub fn holds<T: Stored + PartialEq>(column: &[T; Place::COUNT], from: usize, x: T) -> bool
     requires { from + 16 ≤ places }
     ensures { result ≡ has_in T.eq T.empty column.now x from 16 }
 {

@@ -6,7 +6,7 @@ mod columns;
 mod hints;
 mod settling;
 
-pub use columns::{Held, first_place, holds, put, validity_from, values_of};
+pub use columns::{Stored, first_place, holds, put, validity_from, values_of};
 pub use hints::{HINTS, hint, hint_all};
 use places::WORDS;
 pub use settling::{settle_column, settle_left, settle_words};

@@ -6,18 +6,18 @@ ghost use Rattle.places.specs.Places.{behind_taken};
 ghost use Rattle.book.specs.Settling.{kept_by, column_to, left_to, words_to, settled_to};
 
 use crate::Book;
-use crate::columns::Held;
+use crate::columns::Stored;
 use places::{WORDS, behind_taken, unmark};
 use terms::Place;
 
-fn kept<T: Held>(rest: u32, x: T) -> T
+fn kept<T: Stored>(rest: u32, x: T) -> T
     ensures { result ≡ kept_by T.empty rest x }
 {
     if rest == 0 { T::empty() } else { x }
 }
 
 // A column is emptied where nothing rests. The loops do nothing else, so that the compiler takes several places at a time.
-pub fn settle_column<T: Held>(
+pub fn settle_column<T: Stored>(
     column: &mut [T; Place::COUNT],
     rests: &[u32; Place::COUNT],
     end: usize,

@@ -5,7 +5,7 @@ ghost use Rattle.quotes.specs.Quotes.{is_quote_in, quote_place_in, emptied, requ
 ghost use Rattle.terms.specs.Bounds.{places};
 
 use crate::Pair;
-use book::{Book, Held, Values, first_place, holds, put};
+use book::{Book, Stored, Values, first_place, holds, put};
 use places::{WORDS, mark, unmark};
 use terms::Place;
 
@@ -29,7 +29,7 @@ pub fn quote_place(book: &Book, member: u16, side: u8) -> usize
 }
 
 // A place of a column that is lent emptied; 512 is no place.
-fn empty<T: Held>(column: &mut [T; Place::COUNT], place: usize)
+fn empty<T: Stored>(column: &mut [T; Place::COUNT], place: usize)
     ensures { column.new ≡ emptied T.empty column.old place }
 {
     if place < Place::COUNT {
@@ -38,7 +38,7 @@ fn empty<T: Held>(column: &mut [T; Place::COUNT], place: usize)
 }
 
 // The old sides emptied, and the new ones put.
-pub fn requote_column<T: Held>(
+pub fn requote_column<T: Stored>(
     column: &mut [T; Place::COUNT],
     old: Pair,
     fresh: Pair,

@@ -7,4 +7,4 @@ pub returns : goal.returns
 returns g c =
     let a = c.args in
     let within : a.from + 16 ≤ length a.column.now = omega arith in
-    c.any_is.ensures ∙ told-together g.T.PartialEq.eq g.T.Held.empty a.column.now a.x 16 a.from within
+    c.any_is.ensures ∙ told-together g.T.PartialEq.eq g.T.Stored.empty a.column.now a.x 16 a.from within

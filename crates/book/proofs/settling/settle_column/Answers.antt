@@ -12,5 +12,5 @@ loop-place-preserved g c =
     let a = c.args in
     let l = c.loop-place in
     let within : l.place < length l.column = omega arith in
-    column-next g.T.Held.empty a.rests.now a.column.now l.column l.place l.invariant _
-    (c.kept.ensures ∙ ap (kept_by g.T.Held.empty (get_or a.rests.now l.place 0)) (get_or_default l.column l.place _ g.T.Held.empty within))
+    column-next g.T.Stored.empty a.rests.now a.column.now l.column l.place l.invariant _
+    (c.kept.ensures ∙ ap (kept_by g.T.Stored.empty (get_or a.rests.now l.place 0)) (get_or_default l.column l.place _ g.T.Stored.empty within))

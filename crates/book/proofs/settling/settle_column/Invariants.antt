@@ -4,4 +4,4 @@ use Rattle.book.specs.Settling.{column_to}
 use Rattle.book.proofs.settling.settle_column.Given as goal
 
 abbrev pub invariant-loop-place : goal.invariant-loop-place
-invariant-loop-place g l = l.column ≡ column_to g.T.Held.empty l.rests l.initial.column l.place
+invariant-loop-place g l = l.column ≡ column_to g.T.Stored.empty l.rests l.initial.column l.place
