@@ -1,7 +1,7 @@
 -- The rows of the square (02 K5): the members in the order of their first accepted order or quote.
 use Rattle.std.specs.Prelude.{ℕ, zero, suc, ◌≢◌, ◌≡◌, List, [], ◌∷◌, ◌++◌}
 use Rattle.std.proofs.Math.Path.{refl}
-use Rattle.std.proofs.Common.{ap, ◌∙◌}
+use Rattle.std.proofs.Common.{◌∙◌}
 use Rattle.terms.specs.declared.orders.{Entry.Entry}
 use Rattle.terms.specs.declared.quote_terms.{QuoteEntry.QuoteEntry}
 use Rattle.squares.specs.Square.{joined}

@@ -7,7 +7,7 @@ use Rattle.std.proofs.Math.Path.{ap}
 use mathlib.Core.List.Memᴰ
 use Rattle.std.proofs.lemmas.Bool.{eqb-false}
 use Rattle.lists.specs.Tests.{tests, decided}
-use Rattle.lists.specs.Sums.{◌∈◌, counted, sum, sum-append, sum_same, sum-none, sum-map}
+use Rattle.lists.specs.Sums.{◌∈◌, counted, sum-append, sum_same, sum-none, sum-map}
 use Rattle.terms.specs.Bounds.{places}
 use Rattle.terms.specs.Orders.{Resting, auction_number, auction_from}
 use Rattle.terms.specs.declared.orders.{Side.Side, Side.TheVariants.Buy, Side.TheVariants.Sell, Auction.Auction, Entry.Entry}
@@ -44,7 +44,7 @@ use Rattle.desk_auction.specs.SoundAfter.{auctioned-desk-sound}
 use Rattle.demands.specs.Sequences.{Act, Call}
 use Rattle.demands.specs.Outcomes.{accepted-number}
 use Rattle.demands.specs.Auctioned.{TookPlace, ListWritten, list_written}
-use Rattle.clearing_laws.specs.Runs.{acted, after, run, Deal, deal_of, dealt, deals_so_far, owed_by, owed, member_at, cell_at, quantity_of, quantity_traded, traded_so_far}
+use Rattle.clearing_laws.specs.Runs.{acted, after, run, Deal, deal_of, dealt, deals_so_far, owed_by, owed, member_at, quantity_of, quantity_traded, traded_so_far}
 use Rattle.clearing_laws.specs.Owed.{Between, IsEntered, Owes}
 
 module _ (d : Desk) (sound : SoundDesk d) where

@@ -1,18 +1,15 @@
 -- Who owes whom, in lines: what is printed behind the session's own is worked out from the list of all trades so far (02 K5).
 use Rattle.std.specs.Prelude.{ℕ, ◌≤◌, ◌<◌, ◌≡◌, refl, List, [], ◌∷◌, ◌++◌, map, get_or}
 use Rattle.std.proofs.Common.{inl, inr, sym, ap, subst, ◌∙◌, arith}
-use Rattle.terms.specs.Parameters.{start_with}
-use Rattle.text.specs.Text.{texts}
 use Rattle.squares.specs.Square.{square_members, square_of}
 use Rattle.desk.specs.declared.{Desk.Desk}
 use Rattle.desk.specs.Desk.{fresh_desk, known}
 use Rattle.desk.specs.Sound.{SoundDesk}
 use Rattle.records.specs.declared.{kinds.Record.Record}
-use Rattle.transcript.specs.Transcript.{lent}
 use Rattle.desk_steps.specs.Steps.{desk_step, desk_after, Reached}
 use Rattle.owing.specs.Owing.{owes_line, first_texts, row_lines, square_lines, total_line, owed_lines}
 use Rattle.owing.specs.Texts.{first-same, first_stops, first_of}
-use Rattle.demands.specs.Sequences.{Act, Call}
+use Rattle.demands.specs.Sequences.{Call}
 use Rattle.clearing_laws.specs.Runs.{after, run, Deal, deals_so_far, owed, member_at, cell_at, traded_so_far}
 use Rattle.clearing_laws.specs.Owed.{Owes}
 use Rattle.clearing_laws.proofs.Owed.{who-owes-whom, all-cells-together, reached-is-sound}

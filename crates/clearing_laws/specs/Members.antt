@@ -1,22 +1,10 @@
 -- The rows of the square (02 K5): the members in the order of their first accepted order or quote.
-use Rattle.std.specs.Prelude.{ℕ, zero, suc, ◌≢◌, ◌≡◌, List, [], ◌∷◌, ◌++◌}
-use Rattle.std.proofs.Math.Path.{refl}
-use Rattle.std.proofs.Common.{ap, ◌∙◌}
-use Rattle.terms.specs.declared.orders.{Entry.Entry}
-use Rattle.terms.specs.declared.quote_terms.{QuoteEntry.QuoteEntry}
+use Rattle.std.specs.Prelude.{ℕ, zero, suc, List, [], ◌∷◌, ◌++◌}
 use Rattle.squares.specs.Square.{joined}
-use Rattle.refusals.specs.Checks.{answered-cases}
-use Rattle.refusals.specs.Exactly.{clear}
-use Rattle.entries.specs.declared.{Entered.Entered}
-use Rattle.quotation.specs.declared.{Quoted.Quoted}
 use Rattle.desk.specs.declared.{Desk.Desk}
-use Rattle.desk.specs.Desk.{fresh_desk, known}
-use Rattle.desk.specs.Calls.{order_checks, order_refused, order_done, entered, quote_checks, quote_refused, quote_done, quoted}
-use Rattle.desk.specs.Sound.{SoundDesk}
-use Rattle.desk.specs.SoundAfter.{fresh-desk-sound, entering-joins}
-use Rattle.desk_auction.specs.Auctions.{auctioned}
+use Rattle.desk.specs.Calls.{entered, quoted}
 use Rattle.demands.specs.Sequences.{Act, Call}
-use Rattle.clearing_laws.specs.Runs.{after, run}
+use Rattle.clearing_laws.specs.Runs.{after}
 
 -- whose order or quote a call accepts, and those of a run, one after the other
 abbrev pub if_accepted : ℕ → ℕ → List ℕ

@@ -1,17 +1,15 @@
 -- "Could more have traded?" (C1 to C6) in one statement, over every sequence of calls from a fresh session (A6).
-use Rattle.std.specs.Prelude.{ℕ, ◌⊎◌, ◌↔◌, ◌≡◌, List}
+use Rattle.std.specs.Prelude.{ℕ, ◌≡◌, List}
 use Rattle.terms.specs.Orders.{auction_number}
 use Rattle.terms.specs.declared.orders.{Auction.Auction, Auction.TheVariants.Opening, Auction.TheVariants.Closing}
-use Rattle.auction.specs.NonOpening.{Fillable, FillableAt}
 use Rattle.session.specs.declared.{Session.Session}
 use Rattle.session.specs.State.{fresh_session}
-use Rattle.session.specs.Sound.{legal_price, Sound}
-use Rattle.answers.specs.Auctions.{AuctionLeaves, auctioned}
-use Rattle.session.specs.State.{part}
+use Rattle.session.specs.Sound.{Sound}
+use Rattle.answers.specs.Auctions.{auctioned}
 use Rattle.demands.specs.Sequences.{Call, run, reached-is-sound}
 use Rattle.demands.specs.Prevented.{closing-carried-out}
 use Rattle.demands.proofs.Prevented.{opening-prevented, opening-prevented-legally}
-use Rattle.demands.specs.Auctioned.{TookPlace, NoListMovesMore, BoughtIsSold, NobodyPassedOver, NothingLeft, ListWritten, no-list-at-any-price-moves-more, as-much-bought-as-sold, no-order-passed-over, nothing-left-to-trade, list_written}
+use Rattle.demands.specs.Auctioned.{no-list-at-any-price-moves-more, as-much-bought-as-sold, no-order-passed-over, nothing-left-to-trade, list_written}
 use Rattle.demands.specs.EveryRun.{AllThatCouldTrade, PreventedExactly}
 
 prevented-as-told : (s : Session) → Sound s → (a : Auction) (list : List ℕ) → (auctioned s (auction_number a) list).returned.answer ≡ 0

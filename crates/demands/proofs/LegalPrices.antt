@@ -7,7 +7,6 @@ use Rattle.terms.specs.Orders.{auction_number}
 use Rattle.terms.specs.declared.orders.{Auction.Auction}
 use Rattle.book.specs.Resting.{resting}
 use Rattle.queue.proofs.Reach.{resting-sound}
-use Rattle.auction.specs.Outcome.{outcome}
 use Rattle.session.specs.declared.{Session.Session}
 use Rattle.session.specs.Sound.{legal_price, Sound}
 use Rattle.answers.specs.Auctions.{auctioned}

@@ -1,34 +1,16 @@
 -- The outcome that an auction's call answers: what each number means and what it changes (B9).
-use Rattle.std.specs.Prelude.{ℕ, zero, suc, ◌≤◌, Bool, true, false, cond, not, ◌⊎◌, ◌↔◌, ◌≢◌, ◌≡◌, refl, List, T, leb, length}
+use Rattle.std.specs.Prelude.{ℕ, Bool, true, false, cond, ◌≡◌, refl, List}
 use Rattle.std.proofs.Math.Option.{Option, none, some, none-ne-some, some-injective}
-use Rattle.std.proofs.Common.{⊎_elim, sym, ap, subst, ◌∙◌, arith, ltb-false}
-use Rattle.lists.specs.Tests.{tests, and_both, test-holds}
-use Rattle.terms.specs.Bounds.{trade_list_length}
-use Rattle.terms.specs.Orders.{auction_number, is_auction, auction_from}
-use Rattle.terms.specs.Parameters.{parameters_from}
-use Rattle.terms.specs.declared.orders.{Auction.Auction, Auction.TheVariants.Opening, Auction.TheVariants.Closing, Entry.Entry}
-use Rattle.terms.specs.declared.parameters.{Start.Start}
-use Rattle.terms.specs.declared.quote_terms.{QuoteEntry.QuoteEntry}
+use Rattle.std.proofs.Common.{⊎_elim, sym, ◌∙◌, arith}
+use Rattle.terms.specs.Orders.{auction_number}
+use Rattle.terms.specs.declared.orders.{Auction.Auction}
 use Rattle.price.specs.Interest.{executable}
-use Rattle.price.specs.Chain.{auction_price}
-use Rattle.auction.specs.declared.{Outcome.Outcome, Outcome.TheVariants.Traded, Outcome.TheVariants.NoTrade, Outcome.TheVariants.NonOpening, Outcome.TheVariants.Delayed}
-use Rattle.auction.specs.Outcome.{outcome, prevented, delays, priced, trades, price_answered}
-use Rattle.trades.specs.Written.{trades_written}
-use Rattle.controls.specs.declared.phases.{Phase.TheVariants.PreOpening}
+use Rattle.auction.specs.declared.{Outcome.TheVariants.Traded, Outcome.TheVariants.NonOpening, Outcome.TheVariants.Delayed}
+use Rattle.auction.specs.Outcome.{outcome, priced}
 use Rattle.session.specs.declared.{Session.Session}
-use Rattle.courses.specs.declared.{AuctionAnswer.AuctionAnswer}
-use Rattle.entries.specs.declared.{Started.Started, Entered.Entered, Deleted.Deleted}
-use Rattle.quotation.specs.declared.{Quoted.Quoted}
-use Rattle.session.specs.State.{delay_given}
-use Rattle.controls.specs.Phases.{has_started, phase_after}
-use Rattle.refusals.specs.Checks.{first_hit, answered-cases, answered-done}
-use Rattle.refusals.specs.Exactly.{clear}
-use Rattle.entries.specs.Entry.{start_checks, start_refused, start_done, started, order_checks, order_refused, order_done, entered, delete_checks, delete_refused, delete_done, deleted}
-use Rattle.quotation.specs.Quote.{quote_checks, quote_refused, quote_done, quoted}
 use Rattle.courses.specs.Answer.{answer_of}
-use Rattle.answers.specs.Auctions.{AuctionLeaves, held_by, outcome_of, session_after, auction_leaves, auction_checks, auction_refused, auction_done, auctioned}
+use Rattle.answers.specs.Auctions.{held_by, outcome_of, auctioned}
 use Rattle.session.specs.State.{part}
-use Rattle.demands.specs.Answers.{auction-answer}
 use Rattle.demands.specs.Outcomes.{OutcomesInOrder, carried-out, is_delayed, is_prevented, price_of}
 
 -- in the order of the definition

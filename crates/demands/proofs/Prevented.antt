@@ -1,21 +1,17 @@
 -- Non Opening, of the outcome that is answered: exactly when no trade list, at any price or at any legal one, fills every unlimited order; a closing is never prevented (C5).
-use Rattle.std.specs.Prelude.{ℕ, ◌⊎◌, ◌↔◌, ◌≡◌, refl, List, T}
-use Rattle.std.proofs.Common.{inl, inr}
+use Rattle.std.specs.Prelude.{ℕ, ◌↔◌, ◌≡◌, List}
 use Rattle.terms.specs.Orders.{auction_number}
-use Rattle.terms.specs.declared.orders.{Auction.TheVariants.Opening, Auction.TheVariants.Closing}
+use Rattle.terms.specs.declared.orders.{Auction.TheVariants.Opening}
 use Rattle.book.specs.Resting.{resting}
 use Rattle.queue.proofs.Part.{taking_part-elim, taking_part-distinct}
 use Rattle.queue.proofs.Reach.{resting-sound}
-use Rattle.auction.specs.declared.{Outcome.Outcome, Outcome.TheVariants.Traded, Outcome.TheVariants.NoTrade, Outcome.TheVariants.NonOpening, Outcome.TheVariants.Delayed}
-use Rattle.auction.specs.Outcome.{outcome, outcome_number, takes_place}
 use Rattle.auction.specs.NonOpening.{Fillable, FillableAt}
 use Rattle.auction.proofs.NonOpening.{non-opening-exactly, fillable-legally}
 use Rattle.session.specs.declared.{Session.Session}
 use Rattle.session.specs.Sound.{legal_price, Sound}
 use Rattle.session.specs.State.{part}
-use Rattle.answers.specs.Auctions.{outcome_of, auctioned}
-use Rattle.demands.specs.Traded.{sound-ranged, every-closing-takes-place}
-use Rattle.demands.specs.Outcomes.{carried-out}
+use Rattle.answers.specs.Auctions.{auctioned}
+use Rattle.demands.specs.Traded.{sound-ranged}
 use Rattle.demands.proofs.Outcomes.{outcomes-in-order}
 
 -- C5. Non Opening exactly when no trade list at any price fills every unlimited order taking part ..

@@ -1,21 +1,18 @@
 -- A delay is given once: after a Delayed Opening no call in any sequence answers outcome 4 again (B9).
-use Rattle.std.specs.Prelude.{ℕ, Bool, ◌&&◌, ◌≢◌, ◌≡◌, List, [], ◌∷◌, length}
-use Rattle.std.proofs.Math.Bool.{true, false, true≢false}
+use Rattle.std.specs.Prelude.{◌≡◌, List, [], ◌∷◌, length}
+use Rattle.std.proofs.Math.Bool.{true}
 use Rattle.std.proofs.Math.Path.{refl}
-use Rattle.std.proofs.Common.{sym, ◌∙◌, arith}
-use Rattle.std.proofs.Math.Dec.{T}
+use Rattle.std.proofs.Common.{◌∙◌}
 use Rattle.terms.specs.Orders.{auction_from}
-use Rattle.terms.specs.declared.orders.{Auction.Auction, Auction.TheVariants.Opening, Auction.TheVariants.Closing}
+use Rattle.terms.specs.declared.orders.{Auction.Auction}
 use Rattle.auction.specs.declared.{Outcome.Outcome, Outcome.TheVariants.Traded, Outcome.TheVariants.NoTrade, Outcome.TheVariants.NonOpening, Outcome.TheVariants.Delayed}
-use Rattle.auction.specs.Outcome.{outcome, reaches, outcome_number}
 use Rattle.session.specs.declared.{Session.Session}
 use Rattle.entries.specs.declared.{Started.Started}
 use Rattle.refusals.specs.Checks.{answered-cases}
 use Rattle.entries.specs.Entry.{start_checks, start_refused, start_done, started}
-use Rattle.courses.specs.Held.{delayable}
 use Rattle.answers.specs.Auctions.{AuctionLeaves, outcome_of, session_after, auction_checks, auction_refused, auction_done, auctioned}
 use Rattle.session.specs.State.{part}
-use Rattle.demands.specs.Sequences.{Act, Call, acted, after, run}
+use Rattle.demands.specs.Sequences.{Act, Call, acted, run}
 use Rattle.demands.specs.Outcomes.{others_keep}
 
 -- the mark, once set, stays, and holds off another delay

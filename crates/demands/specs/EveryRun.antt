@@ -1,16 +1,12 @@
 -- "Could more have traded?" (C1 to C6) in one statement, over every sequence of calls from a fresh session (A6).
 use Rattle.std.specs.Prelude.{ℕ, ◌⊎◌, ◌↔◌, ◌≡◌, List}
-use Rattle.terms.specs.Orders.{auction_number}
 use Rattle.terms.specs.declared.orders.{Auction.Auction, Auction.TheVariants.Opening, Auction.TheVariants.Closing}
 use Rattle.auction.specs.NonOpening.{Fillable, FillableAt}
 use Rattle.session.specs.declared.{Session.Session}
-use Rattle.session.specs.State.{fresh_session}
-use Rattle.session.specs.Sound.{legal_price, Sound}
-use Rattle.answers.specs.Auctions.{AuctionLeaves, auctioned}
+use Rattle.session.specs.Sound.{legal_price}
+use Rattle.answers.specs.Auctions.{AuctionLeaves}
 use Rattle.session.specs.State.{part}
-use Rattle.demands.specs.Sequences.{Call, run, reached-is-sound}
-use Rattle.demands.specs.Prevented.{closing-carried-out}
-use Rattle.demands.specs.Auctioned.{TookPlace, NoListMovesMore, BoughtIsSold, NobodyPassedOver, NothingLeft, ListWritten, no-list-at-any-price-moves-more, as-much-bought-as-sold, no-order-passed-over, nothing-left-to-trade, list_written}
+use Rattle.demands.specs.Auctioned.{TookPlace, NoListMovesMore, BoughtIsSold, NobodyPassedOver, NothingLeft, ListWritten}
 
 -- C5, of either auction: an opening has outcome 3 exactly when no list, at any price or at any legal one, fills every unlimited order taking
 -- part; a closing has outcome 1 or 2.

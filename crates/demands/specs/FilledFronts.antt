@@ -1,5 +1,5 @@
 -- Filled front (B11): the longest front part of the side's list whose sum is at most the total, for all entries, sums being those of unbounded numbers.
-use Rattle.std.specs.Prelude.{ℕ, Bool, true, false, not, ◌||◌, ◌≡◌, refl, List, T, ltb, length}
+use Rattle.std.specs.Prelude.{ℕ, Bool, true, false, not, ◌||◌, ◌≡◌, List, T, ltb, length}
 use Rattle.std.proofs.Common.{true≢false, sym, ◌∙◌}
 use Rattle.terms.specs.Bounds.{places}
 use Rattle.terms.proofs.Made.{side-number}

@@ -1,7 +1,7 @@
 -- The outcome that an auction's call answers: what each number means and what it changes (B9).
-use Rattle.std.specs.Prelude.{ℕ, zero, suc, ◌≤◌, Bool, true, false, cond, not, ◌⊎◌, ◌↔◌, ◌≢◌, ◌≡◌, refl, List, T, leb, length}
-use Rattle.std.proofs.Math.Option.{Option, none, some, none-ne-some, some-injective}
-use Rattle.std.proofs.Common.{⊎_elim, sym, ap, subst, ◌∙◌, arith, ltb-false}
+use Rattle.std.specs.Prelude.{ℕ, zero, suc, ◌≤◌, Bool, not, ◌⊎◌, ◌↔◌, ◌≢◌, ◌≡◌, refl, List, T, leb, length}
+use Rattle.std.proofs.Math.Option.{Option, none, some}
+use Rattle.std.proofs.Common.{sym, ap, subst, ◌∙◌, arith, ltb-false}
 use Rattle.lists.specs.Tests.{tests, and_both, test-holds}
 use Rattle.terms.specs.Bounds.{trade_list_length}
 use Rattle.terms.specs.Orders.{auction_number, is_auction, auction_from}
@@ -12,7 +12,7 @@ use Rattle.terms.specs.declared.quote_terms.{QuoteEntry.QuoteEntry}
 use Rattle.price.specs.Interest.{executable}
 use Rattle.price.specs.Chain.{auction_price}
 use Rattle.auction.specs.declared.{Outcome.Outcome, Outcome.TheVariants.Traded, Outcome.TheVariants.NoTrade, Outcome.TheVariants.NonOpening, Outcome.TheVariants.Delayed}
-use Rattle.auction.specs.Outcome.{outcome, prevented, delays, priced, trades, price_answered}
+use Rattle.auction.specs.Outcome.{prevented, delays, trades, price_answered}
 use Rattle.trades.specs.Written.{trades_written}
 use Rattle.controls.specs.declared.phases.{Phase.TheVariants.PreOpening}
 use Rattle.session.specs.declared.{Session.Session}

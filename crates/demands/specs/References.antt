@@ -11,7 +11,7 @@ use Rattle.terms.specs.declared.quote_terms.{QuoteEntry.QuoteEntry}
 use Rattle.trades.specs.Written.{trades_written}
 use Rattle.auction.specs.declared.{Outcome.Outcome, Outcome.TheVariants.Traded, Outcome.TheVariants.NoTrade, Outcome.TheVariants.NonOpening, Outcome.TheVariants.Delayed}
 use Rattle.auction.specs.Outcome.{trades, price_answered}
-use Rattle.controls.specs.Phases.{has_started, phase_after}
+use Rattle.controls.specs.Phases.{has_started}
 use Rattle.refusals.specs.Checks.{first_hit, answered_by, answered-cases}
 use Rattle.refusals.specs.Exactly.{clear}
 use Rattle.session.specs.declared.{Session.Session}
