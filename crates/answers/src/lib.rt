@@ -15,6 +15,7 @@ use terms::Place;
 // What the call returns, `S` as in `entries`.
 #[derive(Clone, Copy)]
 pub struct Auctioned<S> {
+    // 0, or the refusal's number: the promises and A4 speak of numbers.
     pub answer: u8,
     pub result: AuctionAnswer,
     pub session: S,

@@ -18,6 +18,7 @@ use terms::{Auction, DelayThreshold, Price};
 // The four numbers of an auction and of the theoretical answer.
 #[derive(Clone, Copy)]
 pub struct AuctionAnswer {
+    // 1 to 4 as in 01, 0 where the call is refused: the promises and C5 speak of numbers.
     pub outcome: u8,
     pub price: u32,
     pub quantity: u64,

@@ -18,12 +18,14 @@ use terms::{Entry, Parameters, Start};
 // What a call returns: `S` is `Session`, or a type around it (`desk`).
 #[derive(Clone, Copy)]
 pub struct Started<S> {
+    // 0, or the refusal's number: the promises and A4 speak of numbers.
     pub answer: u8,
     pub session: S,
 }
 
 #[derive(Clone, Copy)]
 pub struct Entered<S> {
+    // 0, or the refusal's number: the promises and A4 speak of numbers.
     pub answer: u8,
     pub number: u32,
     pub session: S,
@@ -31,6 +33,7 @@ pub struct Entered<S> {
 
 #[derive(Clone, Copy)]
 pub struct Deleted<S> {
+    // 0, or the refusal's number: the promises and A4 speak of numbers.
     pub answer: u8,
     pub session: S,
 }

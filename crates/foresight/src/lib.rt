@@ -19,6 +19,7 @@ use terms::{Auction, Place};
 
 #[derive(Clone, Copy)]
 pub struct Foreseen {
+    // 0, or the refusal's number: the promises and A4 speak of numbers.
     pub answer: u8,
     pub result: AuctionAnswer,
 }

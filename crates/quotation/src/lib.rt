@@ -16,6 +16,7 @@ use terms::{QuoteEntry, Side};
 // What the call returns, `S` as in `entries`.
 #[derive(Clone, Copy)]
 pub struct Quoted<S> {
+    // 0, or the refusal's number: the promises and A4 speak of numbers.
     pub answer: u8,
     pub bid: u32,
     pub ask: u32,

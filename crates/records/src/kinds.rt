@@ -28,7 +28,8 @@ pub struct Deletion {
     pub number: u32,
 }
 
-// The kinds of record and their lengths. Numbers and no enum, so that the head of each is a constant by which one compare tells it.
+// The kinds of record and their lengths. The enum of kinds is `Record`: these are the file's numbers for them, so that the head of each is a constant by
+// which one compare tells it.
 #[derive(Clone, Copy)]
 pub struct Kind;
 

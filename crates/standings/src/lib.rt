@@ -13,6 +13,7 @@ use terms::{Auction, Place, Side};
 
 #[derive(Clone, Copy)]
 pub struct Queued {
+    // 0, or the refusal's number: the promises and A4 speak of numbers.
     pub answer: u8,
     pub count: u32,
 }

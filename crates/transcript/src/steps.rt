@@ -97,7 +97,13 @@ pub(crate) fn doing_of(
 }
 
 // By its table, whatever the record's kind.
-fn table_written(session: Session, p: Start, place: u64, out: &mut [u8], at: usize) -> Stepped<Session>
+fn table_written(
+    session: Session,
+    p: Start,
+    place: u64,
+    out: &mut [u8],
+    at: usize,
+) -> Stepped<Session>
     requires { Sound session × (at + line_room ≤ length out.old) }
     ensures { WroteStep place out.old out.new at result (step session (Record.Bands p)) }
 {
