@@ -1,9 +1,9 @@
 -- What a call of an auction comes to, before anything changes: refused, held back by its outcome, or taking place (01 "Outcomes").
-use Rattle.std.specs.Prelude.{ℕ, zero, suc, ◌+◌, ◌≤◌, Bool, true, false, ◌≡◌, List, T, take, drop, Result, Ok, Err}
+use Rattle.std.specs.Prelude.{ℕ, zero, suc, ◌+◌, ◌≤◌, Bool, true, false, ◌≢◌, ◌≡◌, List, T, take, drop, Result, Ok, Err}
 use Rattle.std.proofs.Common.{refl, sym, ap, ◌∙◌, arith}
 use Rattle.terms.specs.Bounds.{places}
 use Rattle.terms.specs.Kinds.{is_price}
-use Rattle.terms.specs.Orders.{auction_from}
+use Rattle.terms.specs.Orders.{is_auction, auction_from}
 use Rattle.terms.specs.declared.kinds.{Price.Price}
 use Rattle.terms.specs.declared.orders.{Side.TheVariants.Buy, Side.TheVariants.Sell, Auction.Auction}
 use Rattle.auction.specs.declared.{Outcome.Outcome, Outcome.TheVariants.Traded, Outcome.TheVariants.NoTrade, Outcome.TheVariants.NonOpening, Outcome.TheVariants.Delayed}
@@ -11,10 +11,11 @@ use Rattle.auction.specs.declared.trading.{View.View}
 use Rattle.auction.specs.Trading.{ranks_in, outcome_in}
 use Rattle.controls.specs.declared.phases.{Phase.Phase}
 use Rattle.controls.specs.Phases.{phase_after}
-use Rattle.refusals.specs.Checks.{first_hit, answered_by, answered}
+use Rattle.refusals.specs.Checks.{first_hit, answered_by, answered, answered-refused, answered-done, hits, passes}
 use Rattle.refusals.specs.Numbers.{refusal_number, refusal-number-above}
 use Rattle.refusals.specs.declared.refusal.Refusal.{Refusal}
-use Rattle.refusals.specs.Rows.{auction_rows}
+use Rattle.refusals.specs.declared.refusal.Refusal.TheVariants.{OutOfRange}
+use Rattle.refusals.specs.Rows.{auction_rows, auction_later}
 use Rattle.courses.specs.declared.{AuctionAnswer.AuctionAnswer, Course.Course, Course.TheVariants.Refused, Course.TheVariants.HeldBack, Course.TheVariants.TakesPlace, Plan.Plan, Standing.Standing}
 use Rattle.courses.specs.Held.{preventable, delayable}
 use Rattle.courses.specs.Answer.{no_answer, answer_with}
@@ -100,6 +101,32 @@ takes-place {hit} {a} {b} {o} {p} course decided takes = let (b, p) = go o (sym 
     go NonOpening e = absurd cc
     go (Delayed price quantity) e = absurd cc
 
+-- Why the auction that is asked for is refused, or that nothing refuses it.
+module _ (which : ℕ) (phase : Phase) (size : ℕ) where
+  abbrev pub asked_or_refused : Result Auction ℕ
+  asked_or_refused = answered (auction_rows phase which size) Err (Ok (auction_from which))
+
+  pub asked-out-of-range : is_auction which ≡ false → Err 1 ≡ asked_or_refused
+  asked-out-of-range h = answered-refused (auction_rows phase which size) Err (Ok (auction_from which)) (hits 1 _ (rw h)) (λ z. omega arith)
+
+  module _ {a : Auction} (good : (is_auction which ≡ true) × (a ≡ auction_from which)) {n : ℕ} (later : n ≡ first_hit (auction_later phase a size)) where
+    asked-hit : n ≡ first_hit (auction_rows phase which size)
+    asked-hit = passes 1 _ (rw good.0) (rw good.1 at later)
+
+    pub asked-turned-down : n ≢ 0 → Err n ≡ asked_or_refused
+    asked-turned-down = answered-refused (auction_rows phase which size) Err (Ok (auction_from which)) asked-hit
+
+    pub asked-good : n ≡ 0 → Ok a ≡ asked_or_refused
+    asked-good z = rw good.1 (answered-done (auction_rows phase which size) Err (Ok (auction_from which)) (sym z ∙ asked-hit))
+
+  refused-by : (m : ℕ) {n : ℕ} → ◌≡◌ {A = Result Auction ℕ} (Err n) (answered_by m Err (Ok (auction_from which))) → n ≡ m
+  refused-by zero e = absurd cc
+  refused-by (suc m) e = cc
+
+  made-by : (m : ℕ) {a : Auction} → ◌≡◌ {A = Result Auction ℕ} (Ok a) (answered_by m Err (Ok (auction_from which))) → (m ≡ 0) × (a ≡ auction_from which)
+  made-by zero e = (refl, cc)
+  made-by (suc m) e = absurd cc
+
 -- A plan says the course that is decided; where nothing hits, the list has the ranks of both sides.
 module _ (which : ℕ) (phase : Phase) (size : ℕ) (delayed : Bool) (threshold reference : ℕ) (sides validities limits numbers lefts : List ℕ) where
   abbrev asked : Auction
@@ -120,18 +147,7 @@ module _ (which : ℕ) (phase : Phase) (size : ℕ) (delayed : Bool) (threshold 
     pub sells : hit ≡ 0 → take plan.asks (drop plan.bids ranks) ≡ ranks_in asked sides validities limits numbers Sell
 
   -- from what the code learns on the way
-  abbrev answers : Result Auction ℕ
-  answers = answered (auction_rows phase which size) Err (Ok asked)
-
-  refused-by : (m : ℕ) {n : ℕ} → ◌≡◌ {A = Result Auction ℕ} (Err n) (answered_by m Err (Ok asked)) → n ≡ m
-  refused-by zero e = absurd cc
-  refused-by (suc m) e = cc
-
-  made-by : (m : ℕ) {a : Auction} → ◌≡◌ {A = Result Auction ℕ} (Ok a) (answered_by m Err (Ok asked)) → (m ≡ 0) × (a ≡ asked)
-  made-by zero e = (refl, cc)
-  made-by (suc m) e = absurd cc
-
-  pub plan-refused : {r : Refusal} → Err (refusal_number r) ≡ answers → (plan : Plan) → plan ≡ turned_down r → (ranks : List ℕ) → Planned plan ranks
+  pub plan-refused : {r : Refusal} → Err (refusal_number r) ≡ asked_or_refused which phase size → (plan : Plan) → plan ≡ turned_down r → (ranks : List ℕ) → Planned plan ranks
   plan-refused {r} e plan is ranks = rw is (record {
     course = record { answer = number; goes = λ h. absurd (refusal-number-above r (number ∙ h)) };
     few = omega arith;
@@ -140,15 +156,15 @@ module _ (which : ℕ) (phase : Phase) (size : ℕ) (delayed : Bool) (threshold 
   })
     where
       number : refusal_number r ≡ hit
-      number = refused-by hit e
+      number = refused-by which phase size hit e
 
-  pub plan-made : {a : Auction} → Ok a ≡ answers → (prevents delays : Bool) → prevents ≡ preventable a → delays ≡ delayable a delayed → (view : View) (course : Course) (ranks : List ℕ) → course ≡ course_of a view.outcome
+  pub plan-found : {a : Auction} → Ok a ≡ asked_or_refused which phase size → (prevents delays : Bool) → prevents ≡ preventable a → delays ≡ delayable a delayed → (view : View) (course : Course) (ranks : List ℕ) → course ≡ course_of a view.outcome
       → (view.outcome ≡ outcome_in (record { preventable = prevents; delayable = delays }) threshold reference limits lefts (ranks_in a sides validities limits numbers Buy) (ranks_in a sides validities limits numbers Sell))
       × (view.bids + view.asks ≤ places)
       × (take view.bids ranks ≡ ranks_in a sides validities limits numbers Buy)
       × (take view.asks (drop view.bids ranks) ≡ ranks_in a sides validities limits numbers Sell)
       → Planned (record { course = course; bids = view.bids; asks = view.asks }) ranks
-  plan-made {a} e prevents delays p d view course ranks is (outcome, few, buys, sells) = record {
+  plan-found {a} e prevents delays p d view course ranks is (outcome, few, buys, sells) = record {
     course = record { answer = ap answer_by is ∙ stays view.outcome ∙ sym none; goes = λ h. is ∙ rw (outcome, p, d, good) };
     few = few;
     buys = λ h. buys ∙ rw good;
@@ -156,13 +172,29 @@ module _ (which : ℕ) (phase : Phase) (size : ℕ) (delayed : Bool) (threshold 
   }
     where
       none : hit ≡ 0
-      none = (made-by hit e).0
+      none = (made-by which phase size hit e).0
 
       good : a ≡ asked
-      good = (made-by hit e).1
+      good = (made-by which phase size hit e).1
 
       stays : (o : Outcome) → answer_by (course_of a o) ≡ 0
       stays (Traded price quantity) = refl
       stays NoTrade = refl
       stays NonOpening = refl
       stays (Delayed price quantity) = refl
+
+  -- .. from the first hit
+  pub plan-out-of-range : is_auction which ≡ false → (plan : Plan) → plan ≡ turned_down OutOfRange → (ranks : List ℕ) → Planned plan ranks
+  plan-out-of-range h = plan-refused (asked-out-of-range which phase size h)
+
+  module _ {a : Auction} (good : (is_auction which ≡ true) × (a ≡ auction_from which)) where
+    pub plan-turned-down : {r : Refusal} → refusal_number r ≡ first_hit (auction_later phase a size) → (plan : Plan) → plan ≡ turned_down r → (ranks : List ℕ) → Planned plan ranks
+    plan-turned-down {r} later = plan-refused (asked-turned-down which phase size good later (refusal-number-above r))
+
+    pub plan-made : {n : ℕ} → n ≡ first_hit (auction_later phase a size) → n ≡ 0 → (prevents delays : Bool) → prevents ≡ preventable a → delays ≡ delayable a delayed → (view : View) (course : Course) (ranks : List ℕ) → course ≡ course_of a view.outcome
+        → (view.outcome ≡ outcome_in (record { preventable = prevents; delayable = delays }) threshold reference limits lefts (ranks_in a sides validities limits numbers Buy) (ranks_in a sides validities limits numbers Sell))
+        × (view.bids + view.asks ≤ places)
+        × (take view.bids ranks ≡ ranks_in a sides validities limits numbers Buy)
+        × (take view.asks (drop view.bids ranks) ≡ ranks_in a sides validities limits numbers Sell)
+        → Planned (record { course = course; bids = view.bids; asks = view.asks }) ranks
+    plan-made later z = plan-found (asked-good which phase size good later z)

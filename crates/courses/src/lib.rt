@@ -6,11 +6,8 @@ ghost use Rattle.terms.specs.Bounds.{places};
 ghost use Rattle.auction.specs.Outcome.{price_answered, quantity_answered};
 ghost use Rattle.courses.specs.Held.{preventable, delayable};
 ghost use Rattle.courses.specs.Answer.{no_answer, answer_with};
-ghost use Rattle.refusals.specs.Checks.{answered};
 ghost use Rattle.refusals.specs.Numbers.{numbered_answer};
-ghost use Rattle.refusals.specs.Rows.{auction_rows};
-ghost use Rattle.terms.specs.Orders.{auction_from};
-ghost use Rattle.courses.specs.Course.{course_of, turned_down, answer_by, result_by, delayed_by, PricedBy, reference_by, Priced, standing_by, Planned};
+ghost use Rattle.courses.specs.Course.{course_of, turned_down, answer_by, result_by, delayed_by, PricedBy, reference_by, Priced, standing_by, asked_or_refused, Planned};
 
 use auction::{Held, Outcome};
 use book::Book;
@@ -186,7 +183,7 @@ fn reference_by(outcome: Outcome, reference: Price) -> Price
 
 // The auction that a call asks for, where nothing refuses it.
 fn asked(which: u8, phase: Phase, size: usize) -> Result<Auction, Refusal>
-    ensures { numbered_answer result ≡ answered (auction_rows phase which size) Err (Ok (auction_from which)) }
+    ensures { numbered_answer result ≡ asked_or_refused which phase size }
 {
     let auction = Auction::try_from(which)?;
     refusals::auction_refusal(phase, auction, size)?;

@@ -17,8 +17,8 @@ use terms::Place;
 
 // Auction: refusals 1, 2, 4, 12. The trades are paired by places, so that their rows are at hand, and told by their orders' numbers once they are
 // added. The desk is changed in place as in `answers`: by value it would stand on the stack once more.
-// Its twin there names the trades by a column of the book that it settles and has no cells: one function for both would take a copy of that column and
-// a closure between the trades and the settling, and its promise would speak of both.
+// Its twin there has no cells and names the trades by a column of the book that it settles: one function for both, by a copy of that column and a
+// closure for the cells, would be no plainer.
 pub fn auction(mut desk: Desk, which: u8, list: &mut [u32]) -> Auctioned<Desk>
     requires { SoundDesk desk }
     ensures { auction_leaves result list.new ≡ auctioned desk which list.old }
