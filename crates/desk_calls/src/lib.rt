@@ -24,8 +24,7 @@ pub fn theoretical(desk: Desk, which: u8) -> Foreseen
     requires { SoundDesk desk }
     ensures { result ≡ theoretical desk.session which }
 {
-    let session = desk.session;
-    foresight::theoretical(session, which)
+    foresight::theoretical(desk.session, which)
 }
 
 // Ranked queue: refusals 1, 2, 12.
@@ -33,6 +32,5 @@ pub fn ranked(desk: Desk, side: u8, which: u8, list: &mut [u32]) -> Queued
     requires { SoundDesk desk }
     ensures { queue_leaves result list.new ≡ queued desk.session side which list.old }
 {
-    let session = desk.session;
-    standings::ranked(session, side, which, list)
+    standings::ranked(desk.session, side, which, list)
 }

@@ -222,10 +222,8 @@ fn put_answer(rt: &impl Print, answer: u8, r: AuctionAnswer) {
 }
 
 fn put_desk(rt: &impl Print, desk: Desk) {
-    let book = desk.session.book;
-    put_number(rt, sum(&book.left));
-    let totals = desk.totals;
-    put_number(rt, sum(&totals));
+    put_number(rt, sum(&desk.session.book.left));
+    put_number(rt, sum(&desk.totals));
 }
 
 // What the call answered, the list, the book and the cells are all read at the end: a compiler drops what nobody reads.
@@ -234,11 +232,9 @@ fn put_call(rt: &impl Print, book: u8, orders: u8, call: u8) {
     let desk = filled(size_of(book), orders);
     let seen = cell(desk, call, book);
     let last = one_more(desk, call, &mut list);
-    let result = last.result;
-    put_answer(rt, last.answer, result);
+    put_answer(rt, last.answer, last.result);
     put_number(rt, sum(&list));
-    let after = last.desk;
-    put_desk(rt, after);
+    put_desk(rt, last.desk);
     put_number(rt, seen);
 }
 

@@ -103,10 +103,9 @@ fn auctioned(
     ensures { WroteDesk place out.old out.new at result (desk_step desk (Record.Auction which)) }
 {
     let r = desk_auction::auction(desk, which, list);
-    let result = r.result;
-    let line = auction_line(r.answer, result);
+    let line = auction_line(r.answer, r.result);
     let behind = line_of(out, at, place, line);
-    let end = trade_lines(out, behind, list, result.count as usize);
+    let end = trade_lines(out, behind, list, r.result.count as usize);
     Stepped {
         session: r.session,
         at: end,

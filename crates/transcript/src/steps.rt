@@ -175,10 +175,9 @@ pub(crate) fn auction_written(
     ensures { WroteStep place out.old out.new at result (step session (Record.Auction which)) }
 {
     let r = calls::auction(session, which, list);
-    let result = r.result;
-    let line = auction_line(r.answer, result);
+    let line = auction_line(r.answer, r.result);
     let behind = line_of(out, at, place, line);
-    let end = trade_lines(out, behind, list, result.count as usize);
+    let end = trade_lines(out, behind, list, r.result.count as usize);
     Stepped {
         session: r.session,
         at: end,
