@@ -5,9 +5,8 @@ use Rattle.desk.specs.declared.Entered.{Entered}
 use Rattle.desk.specs.declared.Quoted.{Quoted}
 use Rattle.desk_cost.proofs.filled.Goals as goal
 
-pub loop-i-preserved : goal.loop-i-preserved
-loop-i-preserved c =
-    (subst (λ (r : Entered). SoundDesk r.desk) (sym c.order.ensures) (entered-desk-sound _ _ c.loop-i.invariant.0), c.next-x.ensures)
+pub loop-order-preserved : goal.loop-order-preserved
+loop-order-preserved c = subst (λ (r : Entered). SoundDesk r.desk) (sym c.order.ensures) (entered-desk-sound _ _ c.loop-order.invariant)
 
 pub returns : goal.returns
-returns c = subst (λ (r : Quoted). SoundDesk r.desk) (sym c.quote.ensures) (quoted-desk-sound _ _ c.loop-i.invariant.0)
+returns c = subst (λ (r : Quoted). SoundDesk r.desk) (sym c.quote.ensures) (quoted-desk-sound _ _ c.loop-order.invariant)
