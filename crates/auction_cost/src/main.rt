@@ -8,10 +8,10 @@ ghost use Rattle.session.specs.Sound.{Sound};
 ghost use Rattle.terms.specs.Bounds.{trade_list_length};
 
 use calls::{AuctionAnswer, Session};
+use courses::no_answer;
+use loads::{Kind, Orders, REFERENCE};
 use std::io::Read;
-use terms::{Auction, DelayThreshold, Entry, OneStep, Side, Validity};
-
-const REFERENCE: u32 = 100_000;
+use terms::{Auction, DelayThreshold, Side};
 
 #[derive(Clone, Copy)]
 struct LastCall {
@@ -19,33 +19,8 @@ struct LastCall {
     session: Session,
 }
 
-fn no_answer() -> AuctionAnswer {
-    AuctionAnswer {
-        outcome: 0,
-        price: 0,
-        quantity: 0,
-        count: 0,
-    }
-}
-
-// With the highest threshold, so that no opening of these books is delayed.
-fn started() -> Session
-    ensures { Sound result }
-{
-    let asked = OneStep {
-        step: 100,
-        reference: REFERENCE,
-        factor: 9,
-        threshold: DelayThreshold::MAX,
-        most: 1_000_000_000_000,
-    };
-    let by_rows = asked.as_start();
-    let fresh = Session::fresh();
-    calls::start(fresh, by_rows).session
-}
-
 fn size_of(byte: u8) -> u32
-    ensures { result ≤ 512 }
+    ensures { (2 ≤ result) × (result ≤ 512) }
 {
     match byte {
         b'a' => 2,
@@ -55,66 +30,14 @@ fn size_of(byte: u8) -> u32
     }
 }
 
-fn day_order(side: u8, quantity: u32, limit: u32) -> Entry {
-    Entry {
-        member: 7,
-        side,
-        validity: Validity::DAY,
-        quantity,
-        limit,
-    }
-}
-
-// A fixed generator of 65,537 numbers.
-fn next(x: u32) -> u32
-    requires { x ≤ 65536 }
-    ensures { result ≤ 65536 }
-{
-    (x * 75 + 74) % 65_537
-}
-
-// Buys and sells by turns, 512 limits a side: 80,000 to 131,100 and 68,900 to 120,000.
-fn mixed(i: u32, x: u32) -> Entry
-    requires { x ≤ 65536 }
-{
-    let quantity = 1 + x % 97;
-    let more = x / 97 % 512 * 100;
-    if i % 2 == 0 {
-        return day_order(Side::BUY, quantity, 80_000 + more);
-    }
-    day_order(Side::SELL, quantity, 68_900 + more)
-}
-
-// All but the last are buys with these limits, and all are filled by the last.
-fn against_one(i: u32, orders: u32, limit: u32) -> Entry
-    requires { i ≤ 512 }
-{
-    if i + 1 == orders {
-        return day_order(Side::SELL, 10 * i, REFERENCE);
-    }
-    day_order(Side::BUY, 10, limit)
-}
-
-fn chosen(which: u8, i: u32, orders: u32, x: u32) -> Entry
-    requires { (i ≤ 512) × (x ≤ 65536) }
-{
-    match which {
-        b'o' => against_one(i, orders, REFERENCE),
-        // The worst: each buy better than all before it, so that a merge moves all that it has, and no two limits equal.
-        b'w' => against_one(i, orders, REFERENCE + 100 * i),
-        _ => mixed(i, x),
-    }
-}
-
+// With the highest threshold, so that no opening of these books is delayed.
 fn filled(orders: u32, which: u8) -> Session
-    requires { orders ≤ 512 }
+    requires { (2 ≤ orders) × (orders ≤ 512) }
     ensures { Sound result }
 {
-    let mut session = started();
-    let mut x: u32 = 1;
-    for i in 0..orders {
-        session = calls::order(session, chosen(which, i, orders, x)).session;
-        x = next(x);
+    let mut session = loads::started(REFERENCE, DelayThreshold::MAX);
+    for order in Orders::<7, 1>::new(Kind::from(which), orders) {
+        session = calls::order(session, order).session;
     }
     session
 }

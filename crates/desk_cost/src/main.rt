@@ -7,13 +7,12 @@
 ghost use Rattle.std.specs.Prelude.{◌≤◌};
 ghost use Rattle.desk.specs.Sound.{SoundDesk};
 
-use courses::AuctionAnswer;
+use courses::{AuctionAnswer, no_answer};
 use desk::Desk;
+use loads::{Kind, Orders, REFERENCE};
 use session::Session;
 use std::io::Read;
-use terms::{Auction, DelayThreshold, Entry, OneStep, QuoteEntry, Side, SideEntry, Validity};
-
-const REFERENCE: u32 = 100_000;
+use terms::{Auction, DelayThreshold};
 
 const LAST: u16 = 32;
 
@@ -24,33 +23,16 @@ struct LastCall {
     desk: Desk,
 }
 
-fn no_answer() -> AuctionAnswer {
-    AuctionAnswer {
-        outcome: 0,
-        price: 0,
-        quantity: 0,
-        count: 0,
-    }
-}
-
 // With the highest threshold, so that no opening of these books is delayed.
 fn started() -> Desk
     ensures { SoundDesk result }
 {
-    let asked = OneStep {
-        step: 100,
-        reference: REFERENCE,
-        factor: 9,
-        threshold: DelayThreshold::MAX,
-        most: 1_000_000_000_000,
-    };
-    let by_rows = asked.as_start();
     let fresh = Desk::fresh();
-    desk::start(fresh, by_rows).session
+    desk::start(fresh, loads::start_at(REFERENCE, DelayThreshold::MAX)).session
 }
 
 fn size_of(byte: u8) -> u32
-    ensures { result ≤ 512 }
+    ensures { (2 ≤ result) × (result ≤ 512) }
 {
     if byte == b'd' {
         return 512;
@@ -58,87 +40,16 @@ fn size_of(byte: u8) -> u32
     509
 }
 
-fn member_of(i: u32) -> u16 {
-    (1 + i % 32) as u16
-}
-
-fn day_order(member: u16, side: u8, quantity: u32, limit: u32) -> Entry {
-    Entry {
-        member,
-        side,
-        validity: Validity::DAY,
-        quantity,
-        limit,
-    }
-}
-
-// A fixed generator of 65,537 numbers.
-fn next(x: u32) -> u32
-    requires { x ≤ 65536 }
-    ensures { result ≤ 65536 }
-{
-    (x * 75 + 74) % 65_537
-}
-
-// Buys and sells by turns, 512 limits a side: 80,000 to 131,100 and 68,900 to 120,000.
-fn mixed(i: u32, x: u32) -> Entry
-    requires { x ≤ 65536 }
-{
-    let quantity = 1 + x % 97;
-    let more = x / 97 % 512 * 100;
-    if i % 2 == 0 {
-        return day_order(member_of(i), Side::BUY, quantity, 80_000 + more);
-    }
-    day_order(member_of(i), Side::SELL, quantity, 68_900 + more)
-}
-
-// All but the last are buys with these limits, and all are filled by the last.
-fn against_one(i: u32, orders: u32, limit: u32) -> Entry
-    requires { i ≤ 512 }
-{
-    if i + 1 == orders {
-        return day_order(member_of(i), Side::SELL, 10 * i, REFERENCE);
-    }
-    day_order(member_of(i), Side::BUY, 10, limit)
-}
-
-fn chosen(which: u8, i: u32, orders: u32, x: u32) -> Entry
-    requires { (i ≤ 512) × (x ≤ 65536) }
-{
-    match which {
-        b'o' => against_one(i, orders, REFERENCE),
-        // The worst: each buy better than all before it, so that a merge moves all that it has, and no two limits equal.
-        b'w' => against_one(i, orders, REFERENCE + 100 * i),
-        _ => mixed(i, x),
-    }
-}
-
-fn quote_of(quantity: u32) -> QuoteEntry {
-    QuoteEntry {
-        member: LAST,
-        bid: SideEntry {
-            quantity,
-            limit: REFERENCE,
-        },
-        ask: SideEntry {
-            quantity,
-            limit: 100_100,
-        },
-    }
-}
-
 // The quote is refused where the book is full.
 fn filled(orders: u32, which: u8) -> Desk
-    requires { orders ≤ 512 }
+    requires { (2 ≤ orders) × (orders ≤ 512) }
     ensures { SoundDesk result }
 {
     let mut desk = started();
-    let mut x: u32 = 1;
-    for i in 0..orders {
-        desk = desk::order(desk, chosen(which, i, orders, x)).session;
-        x = next(x);
+    for order in Orders::<1, 32>::new(Kind::from(which), orders) {
+        desk = desk::order(desk, order).session;
     }
-    desk::quote(desk, quote_of(10)).session
+    desk::quote(desk, loads::quote_of(LAST, 10)).session
 }
 
 // The call more; an auction writes to the list. Called in two places it stays a function of its own, whose stack tools/stack.sh can watch.
@@ -155,7 +66,7 @@ fn one_more(desk: Desk, byte: u8, list: &mut [u32]) -> LastCall
             }
         }
         b'o' => {
-            let r = desk::order(desk, day_order(LAST, Side::BUY, 10, REFERENCE));
+            let r = desk::order(desk, loads::buy_of(LAST));
             LastCall {
                 answer: r.answer,
                 result: no_answer(),
@@ -163,7 +74,7 @@ fn one_more(desk: Desk, byte: u8, list: &mut [u32]) -> LastCall
             }
         }
         b'q' => {
-            let r = desk::quote(desk, quote_of(20));
+            let r = desk::quote(desk, loads::quote_of(LAST, 20));
             LastCall {
                 answer: r.answer,
                 result: no_answer(),

@@ -9,7 +9,6 @@ ghost use Rattle.terms.specs.Bounds.{places};
 
 use calls::Session;
 use std::io::Read;
-use terms::{Entry, OneStep, QuoteEntry, Side, SideEntry, Validity};
 
 const ORDERS: u32 = 509;
 
@@ -21,53 +20,14 @@ struct LastCall {
     session: Session,
 }
 
-fn started() -> Session
-    ensures { Sound result }
-{
-    let asked = OneStep {
-        step: 100,
-        reference: 100_000,
-        factor: 9,
-        threshold: 150,
-        most: 1_000_000_000_000,
-    };
-    let by_rows = asked.as_start();
-    let fresh = Session::fresh();
-    calls::start(fresh, by_rows).session
-}
-
-fn day_buy() -> Entry {
-    Entry {
-        member: MEMBER,
-        side: Side::BUY,
-        validity: Validity::DAY,
-        quantity: 10,
-        limit: 100_000,
-    }
-}
-
-fn quote_of(quantity: u32) -> QuoteEntry {
-    QuoteEntry {
-        member: MEMBER,
-        bid: SideEntry {
-            quantity,
-            limit: 100_000,
-        },
-        ask: SideEntry {
-            quantity,
-            limit: 100_100,
-        },
-    }
-}
-
 fn filled() -> Session
     ensures { Sound result }
 {
-    let mut session = started();
+    let mut session = loads::started(loads::REFERENCE, 150);
     for _ in 0..ORDERS {
-        session = calls::order(session, day_buy()).session;
+        session = calls::order(session, loads::buy_of(MEMBER)).session;
     }
-    calls::quote(session, quote_of(10)).session
+    calls::quote(session, loads::quote_of(MEMBER, 10)).session
 }
 
 // The one call more. The quote and the order that is deleted stand at late places, nearly the worst case. The new quote has another quantity, which
@@ -77,14 +37,14 @@ fn one_more(session: Session, byte: u8) -> LastCall
 {
     match byte {
         b'o' => {
-            let r = calls::order(session, day_buy());
+            let r = calls::order(session, loads::buy_of(MEMBER));
             LastCall {
                 answer: r.answer,
                 session: r.session,
             }
         }
         b'q' => {
-            let r = calls::quote(session, quote_of(20));
+            let r = calls::quote(session, loads::quote_of(MEMBER, 20));
             LastCall {
                 answer: r.answer,
                 session: r.session,

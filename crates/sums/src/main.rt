@@ -2,12 +2,15 @@
 // the file `stdout`, whose numbers are the paper's.
 #![tactic(auto)]
 
+ghost use Rattle.std.specs.Prelude.{T};
 ghost use Rattle.session.specs.Sound.{Sound};
+ghost use Rattle.loads.specs.Loads.{can_ask};
 
 use calls::{AuctionAnswer, Session};
-use terms::{Auction, Entry, OneStep, Side, Validity};
+use loads::{REFERENCE, started};
+use terms::{Auction, Entry, Side, Validity};
 
-const REFERENCE: u32 = 100_000;
+const THRESHOLD: u16 = 150;
 
 // A write that fails is passed over, here and wherever a line is printed.
 fn put_line(rt: &impl Print, name: &str, one: u64, other: u64) {
@@ -22,21 +25,6 @@ fn put_answer(rt: &impl Print, name: &str, r: AuctionAnswer) {
         count,
     } = r;
     let _ = println!(rt; "{name} {outcome} {price} {quantity} {count}");
-}
-
-fn started(reference: u32) -> Session
-    ensures { Sound result }
-{
-    let asked = OneStep {
-        step: 100,
-        reference,
-        factor: 9,
-        threshold: 150,
-        most: 1_000_000_000_000,
-    };
-    let by_rows = asked.as_start();
-    let fresh = Session::fresh();
-    calls::start(fresh, by_rows).session
 }
 
 // Limit 0 means unlimited.
@@ -69,7 +57,7 @@ fn resting(session: Session, side: u8, quantity: u32, limit: u32) -> Session
 fn two(buy: u32, buy_limit: u32, sell: u32, sell_limit: u32) -> Session
     ensures { Sound result }
 {
-    let session = resting(started(REFERENCE), Side::BUY, buy, buy_limit);
+    let session = resting(started(REFERENCE, THRESHOLD), Side::BUY, buy, buy_limit);
     resting(session, Side::SELL, sell, sell_limit)
 }
 
@@ -93,7 +81,7 @@ fn opened(rt: &impl Print, name: &str, session: Session) -> Session
 
 // What an order alone in the book is answered.
 fn answered(quantity: u32, limit: u32) -> u64 {
-    let session = started(REFERENCE);
+    let session = started(REFERENCE, THRESHOLD);
     let r = calls::order(session, entry(Side::BUY, Validity::DAY, quantity, limit));
     u64::from(r.answer)
 }
@@ -121,9 +109,10 @@ fn prices(rt: &impl Print) {
 
 // P9's book.
 fn four(reference: u32) -> Session
+    requires { T (can_ask reference THRESHOLD) }
     ensures { Sound result }
 {
-    let one = resting(started(reference), Side::BUY, 100, 100_400);
+    let one = resting(started(reference, THRESHOLD), Side::BUY, 100, 100_400);
     let both = resting(one, Side::BUY, 20, 100_200);
     let three = resting(both, Side::SELL, 100, 99_800);
     resting(three, Side::SELL, 20, 100_400)
@@ -152,7 +141,7 @@ fn left(session: Session, side: u8) -> u64
 // The at-the-close order waits for the closing; both sides of the book are empty after it.
 fn at_close(rt: &impl Print) {
     let buy = entered(
-        started(REFERENCE),
+        started(REFERENCE, THRESHOLD),
         entry(Side::BUY, Validity::AT_CLOSE, 50, 0),
     );
     let session = resting(buy, Side::SELL, 30, 100_200);
@@ -173,7 +162,7 @@ fn put_trade(rt: &impl Print, buy: u32, sell: u32, quantity: u32) {
 
 // The worked input: the trades as the list has them.
 fn worked(rt: &impl Print) {
-    let one = resting(started(REFERENCE), Side::BUY, 50, 100_200);
+    let one = resting(started(REFERENCE, THRESHOLD), Side::BUY, 50, 100_200);
     let both = resting(one, Side::BUY, 50, 100_400);
     let three = resting(both, Side::BUY, 50, 100_200);
     let session = resting(three, Side::SELL, 80, 100_200);
@@ -188,7 +177,7 @@ fn main(rt: HostRuntime) {
     prices(&rt);
     ties(&rt);
     delays(&rt);
-    opened(&rt, "empty", started(REFERENCE));
+    opened(&rt, "empty", started(REFERENCE, THRESHOLD));
     at_close(&rt);
     worked(&rt);
 }

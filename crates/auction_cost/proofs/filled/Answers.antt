@@ -5,6 +5,5 @@ use Rattle.entries.specs.SoundAfter.{entered-sound}
 use Rattle.entries.specs.declared.Entered.{Entered}
 use Rattle.auction_cost.proofs.filled.Goals as goal
 
-pub loop-i-preserved : goal.loop-i-preserved
-loop-i-preserved c =
-    (subst (λ (r : Entered Session). Sound r.session) (sym c.order.ensures) (entered-sound _ _ c.loop-i.invariant.0), c.next-x.ensures)
+pub loop-order-preserved : goal.loop-order-preserved
+loop-order-preserved c = subst (λ (r : Entered Session). Sound r.session) (sym c.order.ensures) (entered-sound _ _ c.loop-order.invariant)

@@ -1,6 +1,5 @@
-use Rattle.std.proofs.Common.{◌≤◌}
 use Rattle.session.specs.Sound.{Sound}
 use Rattle.auction_cost.proofs.filled.Given as goal
 
-abbrev pub invariant-loop-i : goal.invariant-loop-i
-invariant-loop-i l = Sound l.session × (l.x ≤ 65536)
+abbrev pub invariant-loop-order : goal.invariant-loop-order
+invariant-loop-order l = Sound l.session

@@ -6,9 +6,8 @@ use Rattle.quotation.specs.declared.Quoted.{Quoted}
 use Rattle.desk.specs.declared.Desk.{Desk}
 use Rattle.desk_cost.proofs.filled.Goals as goal
 
-pub loop-i-preserved : goal.loop-i-preserved
-loop-i-preserved c =
-    (subst (λ (r : Entered Desk). SoundDesk r.session) (sym c.order.ensures) (entered-desk-sound _ _ c.loop-i.invariant.0), c.next-x.ensures)
+pub loop-order-preserved : goal.loop-order-preserved
+loop-order-preserved c = subst (λ (r : Entered Desk). SoundDesk r.session) (sym c.order.ensures) (entered-desk-sound _ _ c.loop-order.invariant)
 
 pub returns : goal.returns
-returns c = subst (λ (r : Quoted Desk). SoundDesk r.session) (sym c.quote.ensures) (quoted-desk-sound _ _ c.loop-i.invariant.0)
+returns c = subst (λ (r : Quoted Desk). SoundDesk r.session) (sym c.quote.ensures) (quoted-desk-sound _ _ c.loop-order.invariant)

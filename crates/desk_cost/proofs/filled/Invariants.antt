@@ -1,6 +1,5 @@
-use Rattle.std.proofs.Common.{◌≤◌}
 use Rattle.desk.specs.Sound.{SoundDesk}
 use Rattle.desk_cost.proofs.filled.Given as goal
 
-abbrev pub invariant-loop-i : goal.invariant-loop-i
-invariant-loop-i l = SoundDesk l.desk × (l.x ≤ 65536)
+abbrev pub invariant-loop-order : goal.invariant-loop-order
+invariant-loop-order l = SoundDesk l.desk
