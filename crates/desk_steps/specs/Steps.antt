@@ -62,7 +62,7 @@ desk_lines_from d count (r ∷ rs) faulty =
 
 -- a line with two numbers behind its answer
 abbrev pub two_numbers : Word → ℕ → ℕ → ℕ → Line
-two_numbers word answer first second = record { word = word; answer = answer; first = first; second = second; third = 0; fourth = 0 }
+two_numbers word answer first second = record { word = word; answer = answer; numbers = first ∷ second ∷ 0 ∷ 0 ∷ [] }
 
 -- the desk after a step, and the lines of the record at its place from 1 written into the buffer
 abbrev pub WroteDesk : ℕ → List ℕ → List ℕ → ℕ → Stepped Desk → DeskStep → Type 0

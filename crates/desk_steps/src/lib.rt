@@ -32,11 +32,8 @@ fn put_answer(
 {
     let line = Line {
         word,
-        answer: answer as u64,
-        first: first as u64,
-        second: second as u64,
-        third: 0,
-        fourth: 0,
+        answer: u64::from(answer),
+        numbers: [u64::from(first), u64::from(second), 0, 0],
     };
     line_of(out, at, place, line)
 }

@@ -15,7 +15,7 @@ worded word xs = space ∷ word ++ numbers xs
 
 -- the numbers of a line, printed or not
 abbrev pub numbers_of : Line → List ℕ
-numbers_of l = l.first ∷ l.second ∷ l.third ∷ l.fourth ∷ []
+numbers_of l = l.numbers
 
 -- what stands behind a record's place: its word, its answer, and the numbers that its word has
 abbrev pub answer_text : Line → List ℕ
@@ -42,7 +42,7 @@ end_line count = end_word ++ numbers (count ∷ [])
 
 -- a line in which no number but the first is other than 0
 abbrev pub numbered_line : Word → ℕ → ℕ → Line
-numbered_line word answer number = record { word = word; answer = answer; first = number; second = 0; third = 0; fourth = 0 }
+numbered_line word answer number = record { word = word; answer = answer; numbers = number ∷ 0 ∷ 0 ∷ 0 ∷ [] }
 
 -- a record that is done is answered 0, and tells the number given if its word has numbers
 abbrev pub number_told : ℕ → ℕ → ℕ
@@ -54,4 +54,4 @@ done_line word number = numbered_line word 0 (number_told (word_numbers word) nu
 
 -- a quote that is done is answered 0, and tells its buy's number and its sell's (02 K2)
 abbrev pub quote_line : ℕ → ℕ → Line
-quote_line bid ask = record { word = Word.Quote; answer = 0; first = bid; second = ask; third = 0; fourth = 0 }
+quote_line bid ask = record { word = Word.Quote; answer = 0; numbers = bid ∷ ask ∷ 0 ∷ 0 ∷ [] }

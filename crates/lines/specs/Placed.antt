@@ -1,8 +1,8 @@
 -- What stands behind a record's place, as the calls write it: a word behind a space, and numbers.
 use Rattle.std.specs.Prelude.{ℕ, zero, suc, ◌+◌, ◌≤◌, ◌<◌, ◌≡◌, refl, List, [], ◌∷◌, ◌++◌, length, take}
-use Rattle.std.proofs.Common.{subst, append_assoc, append-nil, arith}
+use Rattle.std.proofs.Common.{subst, sym, ap, ◌∙◌, append_assoc, append-nil, arith}
 use Rattle.lines.specs.declared.{words.Word.Word, Line.Line}
-use Rattle.text.specs.Text.{digit, decimal, space, newline, numeral}
+use Rattle.text.specs.Text.{digit, decimal, space, newline, numeral, texts}
 use Rattle.lines.specs.Line.{numbers_of, numbers, worded, answer_text, numbered_line, number_told, done_line}
 use Rattle.lists.specs.Put.{Wrote, put_then}
 use Rattle.text.specs.Decimal.{digits-small}
@@ -12,13 +12,16 @@ use Rattle.lines.specs.Words.{word_text, word_numbers}
 abbrev pub short : List ℕ → ℕ → ℕ → List ℕ
 short word d byte = space ∷ word ++ (space ∷ digit d ∷ byte ∷ [])
 
--- a word, and then the answer and the numbers that the word has
-pub answered-then : (old one new : List ℕ) (at p r n : ℕ) (l : Line) → at ≤ length old → n ≡ word_numbers l.word
-    → Wrote old one at p (space ∷ word_text l.word) → Wrote one new p r (numbers (take (1 + n) (l.answer ∷ numbers_of l))) → Wrote old new at r (answer_text l)
-answered-then old one new at p r n l room e first second =
-    let count : 1 + n ≡ suc (word_numbers l.word) = omega (arith, e) in
-    put_then old one new at p r (space ∷ word_text l.word) (numbers (l.answer ∷ take (word_numbers l.word) (numbers_of l))) room first
-    (subst (λ (k : ℕ). Wrote one new p r (numbers (take k (l.answer ∷ numbers_of l)))) count second)
+-- a word, then the answer, and then the numbers that the word has
+pub answered-then : (old one two new : List ℕ) (at p q r : ℕ) (l : Line) → at ≤ length old
+    → Wrote old one at p (space ∷ word_text l.word) → Wrote one two p q (numeral l.answer) → Wrote two new q r (numbers (take (word_numbers l.word) (numbers_of l)))
+    → Wrote old new at r (answer_text l)
+answered-then old one two new at p q r l room first second third =
+    let word = space ∷ word_text l.word in
+    let told = take (word_numbers l.word) (numbers_of l) in
+    subst (λ (t : List ℕ). Wrote old new at r t)
+    (append_assoc word (numeral l.answer) (numbers told) ∙ ap (λ (t : List ℕ). word ++ t) (sym (append_assoc (numeral l.answer) (texts numeral told) (newline ∷ []))))
+    (put_then old two new at q r (word ++ numeral l.answer) (numbers told) room (put_then old one two at p q word (numeral l.answer) room first second) third)
 
 -- a word without numbers tells none
 told-done : (word : Word) (number : ℕ) → answer_text (numbered_line word 0 number) ≡ answer_text (done_line word number)

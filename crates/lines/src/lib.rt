@@ -32,10 +32,7 @@ pub const TRADE_ROOM: usize = 5 + 3 * NUMBER_ROOM + 1;
 pub struct Line {
     pub word: Word,
     pub answer: u64,
-    pub first: u64,
-    pub second: u64,
-    pub third: u64,
-    pub fourth: u64,
+    pub numbers: [u64; Line::NUMBERS],
 }
 
 impl Line {
@@ -49,10 +46,7 @@ impl Line {
         Line {
             word,
             answer,
-            first: number,
-            second: 0,
-            third: 0,
-            fourth: 0,
+            numbers: [number, 0, 0, 0],
         }
     }
 }

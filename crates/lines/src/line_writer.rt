@@ -30,17 +30,9 @@ fn put_answer(out: &mut [u8], at: usize, line: Line) -> usize
     requires { at + answer_room ≤ length out.old }
     ensures { Wrote out.old out.new at result (answer_text line) }
 {
-    let word = line.word;
-    let numbers = [
-        line.answer,
-        line.first,
-        line.second,
-        line.third,
-        line.fourth,
-    ];
-    let n = 1 + word_numbers(word);
-    let p = put_word(out, at, word);
-    put_numbers(out, p, &numbers[..n])
+    let p = put_word(out, at, line.word);
+    let q = put_number(out, p, line.answer);
+    put_numbers(out, q, &line.numbers[..word_numbers(line.word)])
 }
 
 // What a record was answered.

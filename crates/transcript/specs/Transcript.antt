@@ -39,7 +39,7 @@ abbrev pub delete_step : Deleted Session → Step
 delete_step r = record { session = r.session; line = numbered_line Word.Delete r.answer 0; trades = [] }
 
 abbrev pub quote_step : Quoted Session → Step
-quote_step r = record { session = r.session; line = record { word = Word.Quote; answer = r.answer; first = r.bid; second = r.ask; third = 0; fourth = 0 }; trades = [] }
+quote_step r = record { session = r.session; line = record { word = Word.Quote; answer = r.answer; numbers = r.bid ∷ r.ask ∷ 0 ∷ 0 ∷ [] }; trades = [] }
 
 -- the trades of an auction that was not refused
 abbrev pub trades_answered : Session → ℕ → List Trade
@@ -48,7 +48,7 @@ trades_answered s which = answered (auction_checks s which trade_list_length) (�
 -- the four numbers of an auction's line
 abbrev pub auction_line : ℕ → AuctionAnswer → Line
 auction_line answer result =
-    record { word = Word.Auction; answer = answer; first = result.outcome; second = result.price; third = result.quantity; fourth = result.count }
+    record { word = Word.Auction; answer = answer; numbers = result.outcome ∷ result.price ∷ result.quantity ∷ result.count ∷ [] }
 
 abbrev pub auction_step : Auctioned Session → List Trade → Step
 auction_step r trades = record { session = r.session; line = auction_line r.answer r.result; trades = trades }

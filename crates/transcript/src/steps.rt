@@ -112,7 +112,7 @@ fn table_written(
         out,
         at,
         place,
-        Line::numbered(Word::Start, r.answer as u64, 0),
+        Line::numbered(Word::Start, u64::from(r.answer), 0),
     );
     Stepped {
         session: r.session,
@@ -154,11 +154,13 @@ pub fn auction_line(answer: u8, res: AuctionAnswer) -> Line
 {
     Line {
         word: Word::Auction,
-        answer: answer as u64,
-        first: res.outcome as u64,
-        second: res.price as u64,
-        third: res.quantity,
-        fourth: res.count as u64,
+        answer: u64::from(answer),
+        numbers: [
+            u64::from(res.outcome),
+            u64::from(res.price),
+            res.quantity,
+            u64::from(res.count),
+        ],
     }
 }
 
