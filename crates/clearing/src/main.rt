@@ -21,14 +21,10 @@ const BUFFER: usize = 65_536;
 // A loop must end and nothing says that an input does: there are never more turns than bytes and reads.
 const MOST_TURNS: u64 = 1_099_511_627_776;
 
-fn say(errors: &impl Print, line: &[u8]) {
-    let _ = errors.write_all(line);
-}
-
 // What was gathered goes to standard output.
 fn print(rt: &impl Print, errors: &impl Print, text: &[u8]) {
     if rt.write_all(text).is_err() {
-        say(errors, b"clearing: standard output can't be written\n");
+        let _ = errors.write_all(b"clearing: standard output can't be written\n");
     }
 }
 
@@ -80,10 +76,7 @@ fn walk(rt: &(impl Input + Print), errors: &impl Print, input: &mut [u8], out: &
         }
     }
     print(rt, errors, &out[..at]);
-    say(
-        errors,
-        b"clearing: the run's turns are used up; what follows is not told\n",
-    );
+    let _ = errors.write_all(b"clearing: the run's turns are used up; what follows is not told\n");
     desk
 }
 

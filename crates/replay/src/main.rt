@@ -40,10 +40,6 @@ fn is_over(stop: Stop) -> bool
     matches!(stop, Stop::Fault | Stop::End)
 }
 
-fn say(errors: &impl Print, line: &[u8]) {
-    let _ = errors.write_all(line);
-}
-
 // The bytes for the next telling: one read more where the last one waits for it. It holds fewer than a record can have, so there is room for a read.
 fn next_held(rt: &impl Input, errors: &impl Print, input: &mut [u8], held: Held, stop: Stop) -> Held
     requires { Within (length input.old) held × RoomToRead (length input.old) held stop }
@@ -66,7 +62,7 @@ fn print(rt: &impl Print, errors: &impl Print, text: &[u8], stop: Stop) -> Stop
     ensures { (result ≡ stop) ⊎ (result ≡ Stop.End) }
 {
     if rt.write_all(text).is_err() {
-        say(errors, b"replay: standard output can't be written\n");
+        let _ = errors.write_all(b"replay: standard output can't be written\n");
         return Stop::End;
     }
     stop
@@ -147,8 +143,7 @@ fn main(rt: HostRuntime) {
     let mut output = [0u8; BUFFER];
     let last = all_turns(&rt, &errors, &mut input, &mut output);
     if !is_over(last.stop) {
-        say(
-            &errors,
+        let _ = errors.write_all(
             b"replay: the run's turns are used up; what follows is not told\n",
         );
     }
