@@ -1,4 +1,4 @@
-// Numbers of a file, little-endian (D1).
+// Numbers of a file, little-endian (D1). One for each width: `from_le_bytes` is each type's own, under no trait.
 ghost use Rattle.std.specs.Prelude.{◌≡◌, ◌+◌, ◌<◌, ◌^◌};
 ghost use Rattle.records.specs.Fields.{number};
 

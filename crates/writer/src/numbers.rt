@@ -1,4 +1,5 @@
 // Numbers of a file, little-endian, each written into a lent buffer from a place on; the place behind it (01 "Session file"; K1).
+// One for each width: `to_le_bytes` is each type's own, under no trait.
 ghost use Rattle.std.specs.Prelude.{◌+◌, ◌≤◌, length};
 ghost use Rattle.lists.specs.Put.{Wrote};
 ghost use Rattle.records.specs.Layout.{number_bytes};
