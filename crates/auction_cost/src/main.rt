@@ -9,7 +9,7 @@ ghost use Rattle.terms.specs.Bounds.{trade_list_length};
 
 use calls::{AuctionAnswer, Session};
 use courses::no_answer;
-use loads::{Kind, Orders, REFERENCE};
+use loads::{Load, Orders, REFERENCE};
 use std::io::Read;
 use terms::{Auction, DelayThreshold, Side};
 
@@ -36,7 +36,7 @@ fn filled(orders: u32, which: u8) -> Session
     ensures { Sound result }
 {
     let mut session = loads::started(REFERENCE, DelayThreshold::MAX);
-    for order in Orders::<7, 1>::new(Kind::from(which), orders) {
+    for order in Orders::<7, 1>::new(Load::from(which), orders) {
         session = calls::order(session, order).session;
     }
     session

@@ -9,7 +9,7 @@ ghost use Rattle.desk.specs.Sound.{SoundDesk};
 
 use courses::{AuctionAnswer, no_answer};
 use desk::Desk;
-use loads::{Kind, Orders, REFERENCE};
+use loads::{Load, Orders, REFERENCE};
 use session::Session;
 use std::io::Read;
 use terms::{Auction, DelayThreshold};
@@ -46,7 +46,7 @@ fn filled(orders: u32, which: u8) -> Desk
     ensures { SoundDesk result }
 {
     let mut desk = started();
-    for order in Orders::<1, 32>::new(Kind::from(which), orders) {
+    for order in Orders::<1, 32>::new(Load::from(which), orders) {
         desk = desk::order(desk, order).session;
     }
     desk::quote(desk, loads::quote_of(LAST, 10)).session

@@ -1,3 +1,3 @@
--- Loads: what a session of the programs that count takes, and the kinds of its book.
+-- Loads: what a session of the programs that count takes, and the loads of its book.
 pub mod Loads
-pub mod Kinds
+pub mod Load

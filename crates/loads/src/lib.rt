@@ -2,7 +2,7 @@
 // (01 "Refusals by number", 1, 5 to 8, 13), so what is counted is what a session does that takes them.
 #![tactic(auto)]
 
-mod kinds;
+mod load;
 mod orders;
 
 ghost use Rattle.std.specs.Prelude.{◌≡◌, ◌≤◌, T};
@@ -12,7 +12,7 @@ ghost use Rattle.session.specs.Sound.{Sound};
 ghost use Rattle.controls.specs.declared.phases.{Phase.TheVariants.PreOpening};
 ghost use Rattle.loads.specs.Loads.{can_ask, takes_order, takes_quote};
 
-pub use kinds::Kind;
+pub use load::Load;
 pub use orders::Orders;
 use orders::day_order;
 use session::Session;

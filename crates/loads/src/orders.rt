@@ -6,13 +6,13 @@ ghost use Rattle.terms.specs.Orders.{is_side};
 ghost use Rattle.loads.specs.Loads.{step, takes_order};
 
 use crate::REFERENCE;
-use crate::kinds::Kind;
+use crate::load::Load;
 use terms::{Entry, Side, Validity};
 
-// So many orders of a kind, of the members from FIRST on by turns.
+// So many orders of a load, of the members from FIRST on by turns.
 #[derive(Clone, Copy, Drop)]
 pub struct Orders<const FIRST: u16, const MEMBERS: u16> {
-    kind: Kind,
+    load: Load,
     count: u32,
     // How many were given, and the number of a fixed generator of 65,537.
     given: u32,
@@ -22,13 +22,13 @@ pub struct Orders<const FIRST: u16, const MEMBERS: u16> {
 }
 
 impl<const FIRST: u16, const MEMBERS: u16> Orders<FIRST, MEMBERS> {
-    pub fn new(kind: Kind, count: u32) -> Self
+    pub fn new(load: Load, count: u32) -> Self
         requires count { (2 ≤ count) × (count ≤ 512) }
         requires members { (1 ≤ FIRST) × (1 ≤ MEMBERS) × (FIRST + MEMBERS ≤ 65536) }
         ensures { (result.given ≡ 0) × (result.count ≡ count) }
     {
         Orders {
-            kind,
+            load,
             count,
             given: 0,
             drawn: 1,
@@ -77,10 +77,10 @@ impl<const FIRST: u16, const MEMBERS: u16> Iterator for Orders<FIRST, MEMBERS> {
         if self.given == self.count {
             return None;
         }
-        let order = match self.kind {
-            Kind::OneLimit => self.against_one(REFERENCE),
-            Kind::Worst => self.against_one(REFERENCE + 100 * self.given),
-            Kind::Mixed => self.mixed(),
+        let order = match self.load {
+            Load::OneLimit => self.against_one(REFERENCE),
+            Load::Worst => self.against_one(REFERENCE + 100 * self.given),
+            Load::Mixed => self.mixed(),
         };
         self.given += 1;
         self.drawn = (self.drawn * 75 + 74) % 65_537;

@@ -79,6 +79,7 @@ fn walk(rt: &impl Print, file: &[u8], page: &mut Page) {
     let mut session = Session::fresh();
     let mut count: u64 = 0;
     let mut place: usize = 0;
+    // From record to record: its number goes along for its lines.
     while let Piece::Record(record, next) = read_at(file, place, true) {
         count += 1;
         place = next;

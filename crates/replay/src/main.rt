@@ -79,24 +79,21 @@ fn turned(
     requires { Going (length input.old) run × (length_bound ≤ length input.old) × (run.answered + length input.old < 2 ^ 64) }
     ensures { Going (length input.old) result × (result.answered ≤ run.answered + length input.old) × Turned run input.old output.old result input.new output.new }
 {
-    let before = run.held;
-    let last = run.stop;
-    let held = next_held(rt, errors, input, before, last);
-    let from = held.from;
-    let to = held.to;
-    let session = run.session;
-    let r = told(session, run.answered, &input[from..to], held.ended, output);
-    let end = r.at;
-    let why = r.stop;
-    let stop = print(rt, errors, &output[..end], why);
-    let later = r.session;
+    let held = next_held(rt, errors, input, run.held, run.stop);
+    let r = told(
+        run.session,
+        run.answered,
+        &input[held.from..held.to],
+        held.ended,
+        output,
+    );
+    let stop = print(rt, errors, &output[..r.at], r.stop);
     Run {
-        session: later,
+        session: r.session,
         answered: r.answered,
         held: Held {
-            from: from + r.place,
-            to,
-            ended: held.ended,
+            from: held.from + r.place,
+            ..held
         },
         stop,
     }

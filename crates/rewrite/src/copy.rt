@@ -35,6 +35,7 @@ pub(crate) fn rewritten(file: &[u8], out: &mut [u8]) -> Ending
     let mut count: u64 = 1;
     let mut place: usize = 0;
     let mut end: usize = 0;
+    // From record to record: its number goes along for what is said of it.
     loop {
         let piece = read_at(file, place, true);
         match piece {

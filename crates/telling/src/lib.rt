@@ -34,16 +34,8 @@ pub fn told(session: Session, answered: u64, bytes: &[u8], ended: bool, out: &mu
 {
     let mut list = [0u32; Session::TRADE_LIST];
     let r = records_told(session, answered, bytes, ended, &mut list, out);
-    let stop = r.stop;
-    let later = r.session;
-    let end = last_lines(out, r.at, r.answered, stop);
-    Telling {
-        session: later,
-        answered: r.answered,
-        place: r.place,
-        at: end,
-        stop,
-    }
+    let at = last_lines(out, r.at, r.answered, r.stop);
+    Telling { at, ..r }
 }
 
 // A whole file told: what the session program prints for it, as far as there is room.

@@ -34,6 +34,7 @@ fn count_digits(x: u64) -> usize
 {
     let mut n: usize = 1;
     let mut rest = x;
+    // No count is fixed before the digits are gone.
     while rest >= BASE {
         rest = rest / BASE;
         n += 1;

@@ -28,7 +28,7 @@ pub enum Stop {
     End,
 }
 
-// What is told next: a record and the place behind it, or nothing.
+// What is told next: a record and the place behind it, or nothing. No `Result`: a stop is no error, the end of the bytes is one.
 #[derive(Clone, Copy)]
 pub enum Next {
     Record(Record, usize),

@@ -55,6 +55,7 @@ pub fn records_told(
     let mut count = answered;
     let mut place: usize = 0;
     let mut at: usize = 0;
+    // From record to record, to where it stops.
     loop {
         // Read here, so that nothing stands between a record and what it does.
         let phase = present.phase;
@@ -100,24 +101,21 @@ pub fn records_told(
                     }
                     Doing::Start(p) => {
                         let r = start_written(present, p, count, out, at);
-                        let later = r.session;
-                        present = later;
+                        present = r.session;
                         at = r.at;
                         quote_hint_all(&mut bids, &present.book, Side::BUY);
                         quote_hint_all(&mut asks, &present.book, Side::SELL);
                     }
                     Doing::Auction(which) => {
                         let r = auction_written(present, which, list, count, out, at);
-                        let later = r.session;
-                        present = later;
+                        present = r.session;
                         at = r.at;
                         quote_hint_all(&mut bids, &present.book, Side::BUY);
                         quote_hint_all(&mut asks, &present.book, Side::SELL);
                     }
                     Doing::Bands => {
                         let r = bands_written(present, bytes, from, count, out, at);
-                        let later = r.session;
-                        present = later;
+                        present = r.session;
                         at = r.at;
                         quote_hint_all(&mut bids, &present.book, Side::BUY);
                         quote_hint_all(&mut asks, &present.book, Side::SELL);

@@ -4,9 +4,9 @@ use Rattle.std.proofs.Common.{subst, leb→le, arith}
 use Rattle.lists.specs.Put.{Wrote, put_then}
 use Rattle.lists.specs.Tests.{and_both}
 use Rattle.terms.specs.Bounds.{min_rows, max_rows}
-use Rattle.terms.specs.Tables.{all_rows, rows, is_table}
+use Rattle.terms.specs.Kinds.{within}
+use Rattle.terms.specs.Tables.{all_rows, rows}
 use Rattle.terms.specs.declared.tables.{Row.Row, Table.Table}
-use Rattle.terms.proofs.TableLaws.{table-parts}
 use Rattle.records.specs.Fields.{row_widths}
 use Rattle.records.specs.Layout.{bytes_of}
 use Rattle.records.specs.Bytes.{row_numbers}
@@ -49,12 +49,11 @@ rows-laid zero rs later h = refl
 rows-laid (suc n) [] later h = absurd (omega (arith, h))
 rows-laid (suc n) (r ∷ rs) later h = rw (← rows-laid n rs later (omega (arith, h)))
 
-pub rows_then : (old one new : List ℕ) (at p r : ℕ) (t : Table) (reference factor threshold most : ℕ) → T (is_table t) → at ≤ length old
+pub rows_then : (old one new : List ℕ) (at p r : ℕ) (t : Table) (reference factor threshold most : ℕ) → length (all_rows t) ≡ max_rows → T (within min_rows max_rows t.count) → at ≤ length old
     → Wrote old one at p (rows_bytes (rows t)) → Wrote one new p r (later_bytes reference factor threshold most)
     → Wrote old new at r (bytes_of (row_widths t.count) (row_numbers t.count (all_rows t) ++ (reference ∷ factor ∷ threshold ∷ most ∷ [])))
-rows_then old one new at p r t reference factor threshold most holds room first later =
-    let parts = table-parts t holds in
-    let counted = leb→le t.count max_rows (and_both (leb min_rows t.count) (leb t.count max_rows) parts.counted).1 in
+rows_then old one new at p r t reference factor threshold most placed within-rows room first later =
+    let counted = leb→le t.count max_rows (and_both (leb min_rows t.count) (leb t.count max_rows) within-rows).1 in
     subst (λ (text : List ℕ). Wrote old new at r text)
-    (rows-laid t.count (all_rows t) (reference ∷ factor ∷ threshold ∷ most ∷ []) (omega (arith, parts.placed, counted)))
+    (rows-laid t.count (all_rows t) (reference ∷ factor ∷ threshold ∷ most ∷ []) (omega (arith, placed, counted)))
     (put_then old one new at p r (rows_bytes (rows t)) (later_bytes reference factor threshold most) room first later)

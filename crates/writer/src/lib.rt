@@ -14,7 +14,7 @@ use refusals::Refusal;
 // The refusal, or 0 and the place behind the record.
 #[derive(Clone, Copy)]
 pub struct Written {
-    // 0, or the refusal's number: the promises and A4 speak of numbers.
+    // 0, or the refusal's number: the promise and K1c speak of numbers.
     pub answer: u8,
     pub place: usize,
 }

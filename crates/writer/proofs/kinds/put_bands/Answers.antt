@@ -8,7 +8,7 @@ use Rattle.records.specs.RoundTrip.{length-bounds}
 use Rattle.writer.specs.Fields.{header-then, field-then, field-last}
 use Rattle.terms.specs.Parameters.{is_start, parameters_from}
 use Rattle.terms.specs.Tables.{is_table, rows}
-use Rattle.terms.proofs.TableLaws.{rows-counted}
+use Rattle.terms.proofs.TableLaws.{rows-counted, table-parts}
 use Rattle.terms.proofs.Made.{parameters-hold}
 use Rattle.terms.specs.declared.parameters.{Start.Start}
 use Rattle.writer.specs.Rows.{rows-length, rows_then}
@@ -35,9 +35,10 @@ put_later-requires c = let n = c.args.start.table.count in
 pub returns : goal.returns
 returns c = let x = c.args.start in
     let t = x.table in
+    let parts = table-parts t (holds x c.requires.1) in
     header-then _ _ _ _ _ _ (Record.Bands x) c.requires.0
     (field-then _ _ _ _ _ _ 2 (length_of (Record.Bands x)) (2 ∷ []) (6 ∷ []) (omega (arith, c.requires.0, bands-length t.count))
     (rw c.bands_length.ensures at c.put_two-p.ensures) (λ room. field-last _ _ _ _ 2 6 c.put_two-q.ensures))
     (λ room. field-then _ _ _ _ _ _ 2 t.count (row_widths t.count) _ room c.put_two-r.ensures
-    (λ room. rows_then _ _ _ _ _ _ t x.reference x.factor x.threshold x.most (holds x c.requires.1) (omega (arith, room))
+    (λ room. rows_then _ _ _ _ _ _ t x.reference x.factor x.threshold x.most parts.placed parts.counted (omega (arith, room))
     c.put_rows-s.ensures c.put_later.ensures))
