@@ -7,6 +7,7 @@ ghost use Rattle.terms.specs.Bounds.{places};
 
 use crate::Page;
 use crate::queues::{ASKED, queue_of};
+use book::Book;
 use calls::{Session, filled_front};
 use shown::put_line;
 use terms::{Auction, Place, Side};
@@ -99,12 +100,8 @@ fn front_lines_with(rt: &impl Print, page: &mut Page, open: Open) {
 }
 
 // What is open of the resting order with this number, from the place where the book has it.
-fn left_of<'a>(
-    number: u32,
-    numbers: &'a [u32; Place::COUNT],
-    left: &'a [u32; Place::COUNT],
-) -> u32 {
-    for (rests, open) in numbers.iter().zip(left) {
+fn left_of(number: u32, book: &Book) -> u32 {
+    for (rests, open) in book.number.iter().zip(&book.left) {
         if *rests == number {
             return *open;
         }
@@ -113,17 +110,12 @@ fn left_of<'a>(
 }
 
 // .. and of each order of a queue; how many they are.
-fn list_left<'a>(
-    list: &mut [u32],
-    queue: &[u32],
-    numbers: &'a [u32; Place::COUNT],
-    left: &'a [u32; Place::COUNT],
-) -> usize
+fn list_left(list: &mut [u32], queue: &[u32], book: &Book) -> usize
     requires { length queue.now ≤ length list.old }
     ensures { IsFront result list.new }
 {
     for (open, number) in list.iter_mut().zip(queue) {
-        *open = left_of(*number, numbers, left);
+        *open = left_of(*number, book);
     }
     queue.len()
 }
@@ -136,12 +128,7 @@ fn list_open(list: &mut [u32], session: Session, side: u8) -> usize
     let mut queue = [0u32; Session::QUEUE_LIST];
     let r = queue_of(session, side, Auction::CLOSING, &mut queue);
     let count = r.count as usize;
-    list_left(
-        list,
-        &queue[..count],
-        &session.book.number,
-        &session.book.left,
-    )
+    list_left(list, &queue[..count], &session.book)
 }
 
 // The filled fronts of the resting orders.
