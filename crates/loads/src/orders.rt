@@ -13,9 +13,9 @@ use terms::{Entry, Side, Validity};
 #[derive(Clone, Copy, Drop)]
 pub struct Orders<const FIRST: u16, const MEMBERS: u16> {
     load: Load,
-    count: u32,
+    pub count: u32,
     // How many were given, and the number of a fixed generator of 65,537.
-    given: u32,
+    pub given: u32,
     drawn: u32,
     ghost in_range: { (2 ≤ count) × (count ≤ 512) × (given ≤ count) × (drawn ≤ 65536) },
     ghost members: { (1 ≤ FIRST) × (1 ≤ MEMBERS) × (FIRST + MEMBERS ≤ 65536) },
