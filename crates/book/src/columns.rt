@@ -141,8 +141,8 @@ impl Book {
                 ensures { result ≡ is_sought self.entry.now.taken self.entry.now.number self.entry.now.member number member place }
             {
                 (self.number[place] == number)
-                    & (self.member[place] == member)
-                    & (bit_of(self.taken[place / WORD_PLACES], place % WORD_PLACES) == 1)
+                    && (self.member[place] == member)
+                    && (bit_of(self.taken[place / WORD_PLACES], place % WORD_PLACES) == 1)
             },
         )
     }
