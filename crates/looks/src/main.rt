@@ -14,8 +14,9 @@ use calls::Session;
 use feed::read_full;
 use fronts::{front_lines, long_lines};
 use queues::{ranked_lines, short_lines, theoretical_lines};
-use records::{Piece, Record, read_at};
+use records::{Deletion, Piece, Record, read_at};
 use shown::{put_line, show};
+use terms::{Entry, QuoteEntry, Start};
 
 // The longest file that is read.
 const FILE: usize = 65_536;
@@ -45,23 +46,55 @@ fn look_before(rt: &impl Print, page: &mut Page, session: Session, record: Recor
     }
 }
 
+// A call each, in a function of its own: a function sets what it keeps to 0 when it begins, and each of these keeps a session.
+fn started(session: Session, start: Start) -> Session
+    requires { Sound session }
+    ensures { Sound result }
+{
+    calls::start(session, start).session
+}
+
+fn entered(session: Session, entry: Entry) -> Session
+    requires { Sound session }
+    ensures { Sound result }
+{
+    calls::order(session, entry).session
+}
+
+fn deleted(session: Session, deletion: Deletion) -> Session
+    requires { Sound session }
+    ensures { Sound result }
+{
+    calls::delete(session, deletion.number, deletion.member).session
+}
+
+fn auctioned(session: Session, which: u8) -> Session
+    requires { Sound session }
+    ensures { Sound result }
+{
+    let mut list = [0u32; Session::TRADE_LIST];
+    calls::auction(session, which, &mut list).session
+}
+
+fn quoted(session: Session, entry: QuoteEntry) -> Session
+    requires { Sound session }
+    ensures { Sound result }
+{
+    calls::quote(session, entry).session
+}
+
 // The session after a record, as the session program carries it out (01 "Session file").
 fn carried_out(session: Session, record: Record) -> Session
     requires { Sound session }
     ensures { Sound result }
 {
     match record {
-        Record::Start(start) => calls::start(session, start.as_start()).session,
-        Record::Order(entry) => calls::order(session, entry).session,
-        Record::Delete(deletion) => {
-            calls::delete(session, deletion.number, deletion.member).session
-        }
-        Record::Auction(which) => {
-            let mut list = [0u32; Session::TRADE_LIST];
-            calls::auction(session, which, &mut list).session
-        }
-        Record::Quote(entry) => calls::quote(session, entry).session,
-        Record::Bands(start) => calls::start(session, start).session,
+        Record::Start(start) => started(session, start.as_start()),
+        Record::Order(entry) => entered(session, entry),
+        Record::Delete(deletion) => deleted(session, deletion),
+        Record::Auction(which) => auctioned(session, which),
+        Record::Quote(entry) => quoted(session, entry),
+        Record::Bands(start) => started(session, start),
     }
 }
 
