@@ -1,4 +1,5 @@
-// The same in a buffer that is lent, of any length, from its front on: what puts bytes there answers the place behind them.
+// The same in a buffer that is lent, of any length, from its front on: what puts bytes there answers the place behind them. Buffer and place stay
+// two: a value of both would ask more of who has a buffer and a place in it.
 ghost use Rattle.std.specs.Prelude.{◌≤◌, length};
 
 use itoa::{Buffer, Integer};
