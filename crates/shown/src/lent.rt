@@ -1,6 +1,6 @@
-// The same in a buffer that is lent, of any length, from its front on: what puts bytes there answers the place behind them. Buffer and place stay
-// two: a value of both would ask more of who has a buffer and a place in it.
-ghost use Rattle.std.specs.Prelude.{◌≤◌, length};
+// The same in a lent slice of any length, from its front on: what puts bytes there answers the place behind them. Slice and place stay two, so that
+// whoever has them can call.
+ghost use Rattle.std.specs.Prelude.{◌≡◌, ◌+◌, ◌≤◌, ◌<◌, ◌++◌, length, take};
 
 use itoa::{Buffer, Integer};
 
@@ -14,7 +14,9 @@ pub fn show(rt: &impl Print, out: &[u8], at: usize)
 // Bytes behind those that are gathered; where there is no room for them both are shown.
 pub fn put_bytes(rt: &impl Print, out: &mut [u8], at: usize, bytes: &[u8]) -> usize
     requires { at ≤ length out.old }
-    ensures { result ≤ length out.old }
+    ensures within { result ≤ length out.old }
+    ensures gathered { at + length bytes.now ≤ length out.old → take result out.new ≡ take at out.old ++ bytes.now }
+    ensures shown { length out.old < at + length bytes.now → result ≡ 0 }
 {
     if out.len() - at < bytes.len() {
         show(rt, out, at);
